@@ -1,0 +1,42 @@
+-- A loop that tests each element: what is left decides the whole.
+use Prim.Native.Nat.{ℕ, zero, suc, _+_, _-_, _<_, _≤_}
+use mathlib.Core.Path.{_≡_, refl}
+use mathlib.Core.List.{List, [], _∷_}
+use mathlib.Core.Bool.{Bool, true, false}
+use native.Mathlib.Numerals.{add-one}
+use native.Mathlib.Omega.{arith}
+use lib.ListN.{length, getD, take, drop, length-drop, drop-of-length-le}
+use lib.Seq.{drop-cons, take-all}
+use Rattle.words.specs.Scan.{every}
+
+-- the elements before i have passed
+pub record Scanning (test : ℕ → List ℕ → Bool) (s : List ℕ) (i : ℕ) : Type 0 where
+  pub within : i ≤ length s
+  pub rest : every test (drop i s) ≡ every test s
+
+pub scan-starts : (test : ℕ → List ℕ → Bool) (s : List ℕ) → Scanning test s 0
+scan-starts test s = record { within = omega arith; rest = refl }
+
+module _ (test : ℕ → List ℕ → Bool) (s : List ℕ) (i : ℕ) (so-far : Scanning test s i) where
+  -- the test fails at i
+  pub scan-stops : i < length s → test (getD s i 0) (drop (i + 1) s) ≡ false → false ≡ every test s
+  unfolding every
+  scan-stops h f = rw (drop-cons s i 0 h, rw (add-one i) at f) at (so-far .rest)
+
+  -- it holds at i
+  pub scan-goes : i < length s → test (getD s i 0) (drop (i + 1) s) ≡ true → Scanning test s (i + 1)
+  unfolding every
+  scan-goes h f =
+      record {
+        within = omega arith;
+        rest = rw (add-one i) (rw (drop-cons s i 0 h, rw (add-one i) at f) at (so-far .rest));
+      }
+
+  -- nothing is left
+  pub scan-ends : length s ≤ i → true ≡ every test s
+  unfolding every
+  scan-ends h = rw (drop-of-length-le s h) at (so-far .rest)
+
+-- a part to the end, as the code spells it
+pub to-end : (s : List ℕ) (i : ℕ) → take (length s - i) (drop i s) ≡ drop i s
+to-end s i = take-all (length s - i) (drop i s) (simp length-drop (omega arith))
