@@ -1,3 +1,4 @@
+pub mod StoreLaws
 pub mod WordLaws
 pub mod RunLaws
 pub mod ScanLaws

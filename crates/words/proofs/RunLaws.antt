@@ -9,7 +9,8 @@ use lib.ListN.{length, getD, set, take, drop, length-append, length-set, length-
 use lib.Seq.{sets, sets-eq, drop-cons, drop-drop, take-at, drop-at, length-sets}
 use Rattle.words.specs.Word.{Bytes, wordBytes, wordOf, wordAt}
 use Rattle.words.specs.Run.{words, wordsBytes}
-use Rattle.words.proofs.WordLaws.{length-part, length-word, word-back, word-split, bytes-drop, sets-append}
+use Rattle.words.proofs.WordLaws.{length-part, length-word, word-back, word-split, bytes-drop}
+use Rattle.words.proofs.StoreLaws.{sets-append, front-stored}
 
 -- ---- sizes
 
@@ -44,10 +45,6 @@ words-there w (suc n) s b h =
     let rest = words-there w n (drop w s) (bytes-drop w s b) room in
     let first : wordBytes w (wordAt w s 0) ++ drop (0 + w) s ≡ s = word-split w s 0 b (omega arith) in
     rw (append-assoc, e, ← drop-drop, rest) (rw zero-add at first)
-
--- what is stored at the front is followed by what stood there
-pub front-stored : (n : ℕ) (xs out : List ℕ) → length xs ≡ n → n ≤ length out → sets out 0 xs ≡ xs ++ drop n out
-front-stored n xs out size room = sets-eq xs out 0 (omega arith) ∙ rw (size, zero-add)
 
 -- the part from `at` to at + n, as the code spells it, stored at the front
 pub part-stored : (at n : ℕ) (s out out′ : List ℕ) → at + n ≤ length s → n ≤ length out → out′ ≡ sets out 0 (take (at + n - at) (drop at s)) → out′ ≡ take n (drop at s) ++ drop n out

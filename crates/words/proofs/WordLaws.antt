@@ -2,10 +2,11 @@
 use Prim.Native.Nat.{ℕ, zero, suc, _+_, _*_, _/_, _%_, _^_, _<_, _≤_}
 use mathlib.Core.Path.{_≡_, refl, sym, ap, _∙_}
 use mathlib.Core.List.{List, [], _∷_, _++_}
-use native.Mathlib.Nat.{pow-suc, pow-succ', div-lt-iff-lt-mul, div-div-eq-div-mul, div-one, mod-add-div, add-mul-mod-self-left, add-mul-div-left, mul-assoc, one-mul, zero-add, add-zero, add-suc, suc-add}
+use native.Mathlib.Nat.{pow-suc, pow-succ', div-lt-iff-lt-mul, div-div-eq-div-mul, div-one, mod-add-div, add-mul-mod-self-left, add-mul-div-left, mul-assoc, one-mul, zero-add, suc-add}
 use native.Mathlib.Omega.{arith}
-use lib.ListN.{length, getD, set, take, drop, length-take, length-drop, take-append-drop}
+use lib.ListN.{length, getD, take, drop, length-take, length-drop, take-append-drop}
 use lib.Seq.{sets, take-add, drop-cons, drop-drop, getD-drop}
+use Rattle.words.proofs.StoreLaws.{sets-append, Stored, stored-next}
 use Rattle.words.specs.Word.{Bytes, wordBytes, wordOf, wordAt}
 
 -- ---- bytes
@@ -89,14 +90,14 @@ bytes-join (suc v) w x =
     let e : x / 256 / 256 ^ v ≡ x / 256 ^ suc v = rw (div-div-eq-div-mul, pow-succ') in
     rw (suc-add, bytes-join v w (x / 256), e)
 
-pub sets-append : (a b l : List ℕ) (i : ℕ) → sets l i (a ++ b) ≡ sets (sets l i a) (i + length a) b
-sets-append [] b l i = rw add-zero
-sets-append (x ∷ a) b l i = rw (sets-append a b (set l i x) (suc i), suc-add, add-suc)
-
 -- storing the low part and then the high part stores the whole
 pub word-stored : (v w x at : ℕ) (l l₁ l₂ : List ℕ) → l₁ ≡ sets l at (wordBytes v (x % 256 ^ v)) → l₂ ≡ sets l₁ (at + v) (wordBytes w (x / 256 ^ v)) → l₂ ≡ sets l at (wordBytes (v + w) x)
 word-stored v w x at l l₁ l₂ e f =
     rw (f, e, bytes-low, bytes-join, sets-append, length-word)
+
+-- a word stored right after what was stored before
+pub stored-word : {l : List ℕ} {at : ℕ} {p : List ℕ} {n : ℕ} {l₁ : List ℕ} (w x : ℕ) (l₂ : List ℕ) → Stored l at p n l₁ → l₂ ≡ sets l₁ (at + n) (wordBytes w x) → Stored l at (p ++ wordBytes w x) (n + w) l₂
+stored-word w x l₂ first e = stored-next w (wordBytes w x) l₂ first (length-word w x) e
 
 -- ---- a word of one byte is the byte
 

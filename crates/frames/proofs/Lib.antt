@@ -1,0 +1,6 @@
+pub mod Facts
+pub mod Sizes
+pub mod PutLaws
+pub mod RequestLaws
+pub mod ReadLaws
+pub mod WriteLaws

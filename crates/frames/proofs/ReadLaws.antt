@@ -1,0 +1,86 @@
+-- The reader's definition at each way out of its code.
+use Prim.Native.Nat.{ℕ, _+_, _<_, _≤_}
+use mathlib.Core.Path.{_≡_, refl, sym, ap, _∙_}
+use mathlib.Core.Bool.{Bool, true, false}
+use mathlib.Core.List.{List}
+use borrow.Author.Tests.{le-leb, lt-leb, eq-eqb, ne-eqb}
+use lib.ListN.{length}
+use Rattle.words.specs.Word.{wordAt}
+use Rattle.frames.specs.Layout.{lengthAt, lengthSize, kindAt, headerSize, messageKind, configurationAt, contentAt, tokenKind, requestsAt, mostRequests, tokenSize}
+use Rattle.frames.specs.Message.{configuration, messageOf, contentOf, messageFollows}
+use Rattle.frames.specs.Token.{requestCount, tokenOf, tokenFollows}
+use Rattle.frames.specs.Read.{readOf, readMessage, readToken, refused, aMessage, aToken}
+use Rattle.frames.specs.declared.message.Message.{Message}
+use Rattle.frames.specs.declared.token.Token.{Token}
+use Rattle.frames.specs.declared.refusal.Refusal.the-variants.{WrongLength, OtherKind, Malformed}
+
+-- ---- question 12 of a message
+
+module _ (s : List ℕ) where
+  pub message-short : length s < contentAt → refused Malformed ≡ readMessage s
+  unfolding readMessage
+  message-short h = simp (lt-leb _ _ h)
+
+  pub message-configured : contentAt ≤ length s → (wordAt 4 s configurationAt ≡ configuration → ⊥) → refused Malformed ≡ readMessage s
+  unfolding readMessage
+  message-configured h ne = simp (le-leb _ _ h, ne-eqb _ _ ne)
+
+module _ (s : List ℕ) (m : Message) (content : List ℕ) (follows : Bool) (long : contentAt ≤ length s) (zero-there : wordAt 4 s configurationAt ≡ configuration) (values : m ≡ messageOf s) (rest : content ≡ contentOf s) (tested : follows ≡ messageFollows m content) where
+  the-test : follows ≡ messageFollows (messageOf s) (contentOf s)
+  the-test = rw (← values, ← rest) tested
+
+  pub message-wrong : follows ≡ false → refused Malformed ≡ readMessage s
+  unfolding readMessage
+  message-wrong bad = simp (le-leb _ _ long, eq-eqb _ _ zero-there, sym the-test ∙ bad)
+
+  pub message-right : follows ≡ true → aMessage m ≡ readMessage s
+  unfolding readMessage
+  message-right ok = simp (values, le-leb _ _ long, eq-eqb _ _ zero-there, sym the-test ∙ ok)
+
+-- ---- question 12 of a token
+
+module _ (s : List ℕ) where
+  pub token-short : length s < requestsAt → refused Malformed ≡ readToken s
+  unfolding readToken
+  token-short h = simp (lt-leb _ _ h)
+
+  pub token-crowded : requestsAt ≤ length s → mostRequests < requestCount s → refused Malformed ≡ readToken s
+  unfolding readToken
+  token-crowded h many = simp (le-leb _ _ h, lt-leb _ _ many)
+
+  pub token-missized : requestsAt ≤ length s → requestCount s ≤ mostRequests → (length s ≡ tokenSize (requestCount s) → ⊥) → refused Malformed ≡ readToken s
+  unfolding readToken
+  token-missized h few ne = simp (le-leb _ _ h, le-leb _ _ few, ne-eqb _ _ ne)
+
+module _ (s : List ℕ) (t : Token) (follows : Bool) (long : requestsAt ≤ length s) (few : requestCount s ≤ mostRequests) (size : length s ≡ tokenSize (requestCount s)) (values : t ≡ tokenOf s) (tested : follows ≡ tokenFollows t) where
+  pub token-wrong : follows ≡ false → refused Malformed ≡ readToken s
+  unfolding readToken
+  token-wrong bad = simp (le-leb _ _ long, le-leb _ _ few, eq-eqb _ _ size, ap tokenFollows (sym values) ∙ sym tested ∙ bad)
+
+  pub token-right : follows ≡ true → aToken t ≡ readToken s
+  unfolding readToken
+  token-right ok = simp (values, le-leb _ _ long, le-leb _ _ few, eq-eqb _ _ size, ap tokenFollows (sym values) ∙ sym tested ∙ ok)
+
+-- ---- questions 10 and 11
+
+module _ (s : List ℕ) where
+  pub read-short : length s < headerSize → refused WrongLength ≡ readOf s
+  unfolding readOf
+  read-short h = simp (lt-leb _ _ h)
+
+  pub read-inexact : headerSize ≤ length s → (length s ≡ lengthSize + wordAt 2 s lengthAt → ⊥) → refused WrongLength ≡ readOf s
+  unfolding readOf
+  read-inexact h ne = simp (le-leb _ _ h, ne-eqb _ _ ne)
+
+  module _ (long : headerSize ≤ length s) (exact : length s ≡ lengthSize + wordAt 2 s lengthAt) where
+    pub read-as-message : wordAt 2 s kindAt ≡ messageKind → readMessage s ≡ readOf s
+    unfolding readOf
+    read-as-message k = simp (le-leb _ _ long, eq-eqb _ _ exact, eq-eqb _ _ k)
+
+    pub read-as-token : wordAt 2 s kindAt ≡ tokenKind → readToken s ≡ readOf s
+    unfolding readOf
+    read-as-token k = simp (k, le-leb _ _ long, eq-eqb _ _ exact)
+
+    pub read-other : (wordAt 2 s kindAt ≡ messageKind → ⊥) → (wordAt 2 s kindAt ≡ tokenKind → ⊥) → refused OtherKind ≡ readOf s
+    unfolding readOf
+    read-other k l = simp (le-leb _ _ long, eq-eqb _ _ exact, ne-eqb _ _ k, ne-eqb _ _ l)

@@ -1,0 +1,33 @@
+-- Laws of a token's requests.
+use Prim.Native.Nat.{ℕ, zero, suc, _+_, _-_, _<_, _≤_}
+use mathlib.Core.Path.{_≡_, refl, sym, _∙_}
+use mathlib.Core.Bool.{Bool, true, false, _&&_}
+use mathlib.Core.List.{List, [], _∷_, _++_}
+use borrow.Author.Tests.{le-leb, lt-leb, eq-eqb}
+use native.Mathlib.Nat.{sub-zero, zero-sub, suc-sub-suc}
+use native.Mathlib.Omega.{arith}
+use lib.ListN.{length, take, drop, replicate}
+use Rattle.words.specs.Run.{words}
+use Rattle.words.specs.Scan.{allWithin, allZero, distinct}
+use Rattle.words.proofs.ScanLaws.{to-end}
+use Rattle.frames.specs.Layout.{mostRequests, requestsAt}
+use Rattle.frames.specs.Token.{requestsOf, requestsFollow}
+
+drop-replicate : {A : Type 0} (m n : ℕ) (a : A) → drop n (replicate m a) ≡ replicate (m - n) a
+drop-replicate m zero a = rw sub-zero
+drop-replicate zero (suc n) a = rw zero-sub
+drop-replicate (suc m) (suc n) a = rw suc-sub-suc (drop-replicate m n a)
+
+-- the words read into sixteen zeros
+pub requests-padded : (n : ℕ) (s requests : List ℕ) → requests ≡ words 4 n (drop requestsAt s) ++ drop n (replicate mostRequests 0) → requests ≡ requestsOf n s
+unfolding requestsOf
+requests-padded n s requests e = e ∙ rw (drop-replicate 16 n)
+
+module _ (n : ℕ) (requests : List ℕ) (highest : ℕ) (places : length requests ≡ mostRequests) where
+  pub requests-many : mostRequests < n → false ≡ requestsFollow n requests highest
+  unfolding requestsFollow
+  requests-many many = simp (eq-eqb _ _ places, lt-leb _ _ many)
+
+  pub requests-tested : (known once rest : Bool) → n ≤ mostRequests → known ≡ allWithin 1 highest (take n requests) → once ≡ distinct (take n requests) → rest ≡ allZero (take (length requests - n) (drop n requests)) → known && once && rest ≡ requestsFollow n requests highest
+  unfolding requestsFollow
+  requests-tested known once rest few e f g = rw (e, f, rw to-end at g, eq-eqb _ _ places, le-leb _ _ few)

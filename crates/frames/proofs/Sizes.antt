@@ -1,0 +1,34 @@
+-- How many bytes each part of a frame has.
+use Prim.Native.Nat.{ℕ, _+_, _*_, _≤_}
+use mathlib.Core.Path.{_≡_, refl, _∙_}
+use mathlib.Core.List.{List, _++_}
+use native.Mathlib.Omega.{arith}
+use lib.ListN.{length, take, length-append, length-take}
+use lib.Seq.{length-take-le}
+use Rattle.words.proofs.WordLaws.{length-word}
+use Rattle.words.proofs.RunLaws.{length-words-bytes}
+use Rattle.frames.specs.Layout.{headerSize, contentAt, messageSize, requestsAt, tokenSize}
+use Rattle.frames.specs.Header.{headerBytes}
+use Rattle.frames.specs.Message.{messageFixed, messageBytes}
+use Rattle.frames.specs.Token.{tokenFixed, tokenBytes}
+use Rattle.frames.specs.declared.header.Header.{Header}
+use Rattle.frames.specs.declared.message.Message.{Message}
+use Rattle.frames.specs.declared.token.Token.{Token}
+
+pub header-length : (size kind : ℕ) (h : Header) → length (headerBytes size kind h) ≡ headerSize
+unfolding headerBytes
+header-length size kind h = simp (length-append, length-word)
+
+pub message-fixed-length : (m : Message) (size : ℕ) → length (messageFixed m size) ≡ contentAt
+unfolding messageFixed
+message-fixed-length m size = simp (length-append, length-word, header-length)
+
+pub message-length : (m : Message) (content : List ℕ) → length (messageBytes m content) ≡ messageSize (length content)
+message-length m content = simp (length-append, message-fixed-length)
+
+pub token-fixed-length : (t : Token) → length (tokenFixed t) ≡ requestsAt
+unfolding tokenFixed
+token-fixed-length t = simp (length-append, length-word, header-length)
+
+pub token-length : (t : Token) → t .count ≤ length (t .requests) → length (tokenBytes t) ≡ tokenSize (t .count)
+token-length t few = simp (length-append, token-fixed-length, length-words-bytes, length-take-le (t .count) (t .requests) few)

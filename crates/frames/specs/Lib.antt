@@ -1,0 +1,9 @@
+pub mod Number
+pub mod Layout
+pub mod Refusal
+pub mod Header
+pub mod Message
+pub mod Token
+pub mod Read
+pub mod Write
+pub mod RoundTrip

@@ -1,0 +1,15 @@
+-- Ids, and the numbers of rings, messages and tokens. [document 01, Frames]
+use Prim.Native.Nat.{ℕ}
+use mathlib.Core.Bool.{Bool, _&&_}
+use lib.Dec.{leb}
+
+abbrev pub mostNumber : ℕ
+mostNumber = 2000000000
+
+-- a ring, message or token number
+abbrev pub isNumber : ℕ → Bool
+isNumber n = leb 1 n && leb n mostNumber
+
+-- a member's id
+abbrev pub isId : ℕ → Bool
+isId n = leb 1 n && leb n 65535

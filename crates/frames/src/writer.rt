@@ -1,0 +1,94 @@
+// The writers.
+ghost use mathlib.Core.Path.{_≡_};
+ghost use mathlib.Core.List.{_++_};
+ghost use Prim.Native.Nat.{_≤_, _<_};
+ghost use lib.ListN.{length};
+ghost use lib.Seq.{sets};
+ghost use Rattle.frames.specs.Layout.{contentAt, requestsAt, mostRequests};
+ghost use Rattle.frames.specs.Message.{messageFixed};
+ghost use Rattle.frames.specs.Token.{tokenFixed};
+ghost use Rattle.frames.specs.Write.{messageWritten, tokenWritten};
+use crate::header;
+use crate::layout;
+use crate::message;
+use crate::message::Message;
+use crate::refusal::Refusal;
+use crate::token;
+use crate::token::Token;
+
+// The frame's size in bytes, or why nothing was written.
+pub enum Written {
+    Size(usize),
+    Refused(Refusal),
+}
+
+// The bytes before the content, of a frame of `size` bytes in all.
+fn put_message_fixed(out: &mut [u8], m: Message, size: usize)
+    requires { ⌜ (contentAt ≤ length (now out)) × (contentAt ≤ size) × (size < 65536) ⌝ }
+    ensures { λ _. ⌜ now (out .exit) ≡ sets (now (out .entry)) 0 (messageFixed m size) ⌝ }
+{
+    header::put_header(out, size, layout::MESSAGE_KIND, m.header);
+    words::put_u16(out, layout::SENDER_AT, m.sender);
+    words::put_u32(out, layout::MESSAGE_NUMBER_AT, m.number.0);
+    words::put_u32(out, layout::CONFIGURATION_AT, 0);
+    words::put_u16(out, layout::SERVICE_AT, m.service);
+}
+
+// Writes a message frame to the front of `out`. Ruled out: a byte past the frame changed; a buffer
+// one byte short taken.
+pub fn write_message(m: Message, content: &[u8], out: &mut [u8]) -> Written
+    ensures { λ r. ⌜ r ≡ (messageWritten m (now (content .entry)) (now (out .entry))) .answer ⌝ }
+    ensures { λ _. ⌜ now (out .exit) ≡ (messageWritten m (now (content .entry)) (now (out .entry))) .out ⌝ }
+{
+    if !message::message_follows(m, content) {
+        return Written::Refused(Refusal::Malformed);
+    }
+    let size = layout::CONTENT_AT + content.len();
+    if out.len() < size {
+        return Written::Refused(Refusal::NoRoom);
+    }
+    put_message_fixed(out, m, size);
+    words::put_bytes(out, layout::CONTENT_AT, content);
+    Written::Size(size)
+}
+
+// The bytes before the requests.
+fn put_token_fixed(out: &mut [u8], t: Token)
+    requires { ⌜ (requestsAt ≤ length (now out)) × (t .count ≤ mostRequests) ⌝ }
+    ensures { λ _. ⌜ now (out .exit) ≡ sets (now (out .entry)) 0 (tokenFixed t) ⌝ }
+{
+    let blocker = t.blocker;
+    header::put_header(
+        out,
+        layout::token_size(t.count),
+        layout::TOKEN_KIND,
+        t.header,
+    );
+    words::put_u16(out, layout::ADDRESSEE_AT, t.addressee);
+    words::put_u32(out, layout::TOKEN_NUMBER_AT, t.number.0);
+    words::put_u32(out, layout::HIGHEST_AT, t.highest.0);
+    words::put_u32(out, layout::ARU_AT, t.aru.0);
+    words::put_u16(out, layout::BLOCKER_AT, token::blocker_id(blocker));
+    words::put_u16(out, layout::ROUND_AT, t.round);
+    words::put_u16(out, layout::COUNT_AT, t.count);
+}
+
+// Writes a token frame to the front of `out`. Ruled out: requests left out; a refusal that has
+// written the header already.
+pub fn write_token(t: Token, out: &mut [u8]) -> Written
+    ensures { λ r. ⌜ r ≡ (tokenWritten t (now (out .entry))) .answer ⌝ }
+    ensures { λ _. ⌜ now (out .exit) ≡ (tokenWritten t (now (out .entry))) .out ⌝ }
+{
+    let requests = t.requests;
+    if !token::token_follows(t) {
+        return Written::Refused(Refusal::Malformed);
+    }
+    let size = layout::token_size(t.count);
+    if out.len() < size {
+        return Written::Refused(Refusal::NoRoom);
+    }
+    let n = t.count as usize;
+    put_token_fixed(out, t);
+    words::put_u32s(out, layout::REQUESTS_AT, &requests[..n]);
+    Written::Size(size)
+}
