@@ -4,3 +4,5 @@ pub mod PutLaws
 pub mod RequestLaws
 pub mod ReadLaws
 pub mod WriteLaws
+pub mod Restored
+pub mod Rewritten

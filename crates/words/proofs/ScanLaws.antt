@@ -2,12 +2,14 @@
 use Prim.Native.Nat.{ℕ, zero, suc, _+_, _-_, _<_, _≤_}
 use mathlib.Core.Path.{_≡_, refl}
 use mathlib.Core.List.{List, [], _∷_}
-use mathlib.Core.Bool.{Bool, true, false}
+use mathlib.Core.Bool.{Bool, true, false, _&&_}
+use borrow.Author.Tests.{leb-true}
 use native.Mathlib.Numerals.{add-one}
 use native.Mathlib.Omega.{arith}
-use lib.ListN.{length, getD, take, drop, length-drop, drop-of-length-le}
+use lib.ListN.{length, getD, take, drop, replicate, length-drop, drop-of-length-le}
+use lib.Dec.{leb}
 use lib.Seq.{drop-cons, take-all}
-use Rattle.words.specs.Scan.{every}
+use Rattle.words.specs.Scan.{every, allWithin, allZero}
 
 -- the elements before i have passed
 pub record Scanning (test : ℕ → List ℕ → Bool) (s : List ℕ) (i : ℕ) : Type 0 where
@@ -40,3 +42,29 @@ module _ (test : ℕ → List ℕ → Bool) (s : List ℕ) (i : ℕ) (so-far : S
 -- a part to the end, as the code spells it
 pub to-end : (s : List ℕ) (i : ℕ) → take (length s - i) (drop i s) ≡ drop i s
 to-end s i = take-all (length s - i) (drop i s) (simp length-drop (omega arith))
+
+-- ---- what a scan that passed tells
+
+first-passes : (a b : Bool) → a && b ≡ true → a ≡ true
+first-passes true b e = refl
+first-passes false b e = e
+
+rest-passes : (a b : Bool) → a && b ≡ true → b ≡ true
+rest-passes true b e = e
+rest-passes false b e = absurd (not-both e)
+  where
+    not-both : false ≡ true → ⊥
+    not-both q = let z : _≡_ {A = ℕ} 0 1 = cc in omega arith
+
+pub within-most : (low high : ℕ) (s : List ℕ) → allWithin low high s ≡ true → (i : ℕ) → getD s i 0 ≤ high
+unfolding every
+within-most low high [] e i = omega arith
+within-most low high (x ∷ s) e zero = leb-true x high (rest-passes (leb low x) (leb x high) (first-passes (leb low x && leb x high) (allWithin low high s) e))
+within-most low high (x ∷ s) e (suc i) = within-most low high s (rest-passes (leb low x && leb x high) (allWithin low high s) e) i
+
+pub zeros-are : (s : List ℕ) → allZero s ≡ true → s ≡ replicate (length s) 0
+unfolding every
+zeros-are [] e = refl
+zeros-are (x ∷ s) e =
+    let none : x ≡ 0 = omega (arith, within-most 0 0 (x ∷ s) e 0) in
+    rw (none, ← zeros-are s (rest-passes (leb 0 x && leb x 0) (allZero s) e))
