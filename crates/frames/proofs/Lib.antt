@@ -6,3 +6,4 @@ pub mod ReadLaws
 pub mod WriteLaws
 pub mod Restored
 pub mod Rewritten
+pub mod Trials

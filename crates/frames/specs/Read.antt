@@ -6,6 +6,7 @@ use lib.ListN.{length, replicate}
 use lib.Dec.{leb, eqb}
 use Rattle.words.specs.Word.{wordAt}
 use Rattle.frames.specs.Layout.{lengthAt, lengthSize, kindAt, headerSize, configurationAt, contentAt, messageKind, requestsAt, mostRequests, tokenKind, tokenSize}
+use Rattle.frames.specs.Refusal.{refusalNumber}
 use Rattle.frames.specs.Message.{configuration, messageOf, contentOf, messageFollows}
 use Rattle.frames.specs.Token.{requestCount, tokenOf, tokenFollows}
 use Rattle.frames.specs.declared.refusal.Refusal.{Refusal}
@@ -14,9 +15,16 @@ use Rattle.frames.specs.declared.message.Message.{Message}
 use Rattle.frames.specs.declared.token.Token.{Token}
 use Rattle.frames.specs.declared.token.Blocker.the-variants.{Nobody}
 use Rattle.frames.specs.declared.reader.Reading.{Reading}
+use Rattle.frames.specs.declared.reader.Answer.{Answer}
 use Rattle.frames.specs.declared.reader.Answer.the-variants.{Refused, IsMessage, IsToken}
 
 -- ---- the three outcomes; an enum holds no array, so a token stands beside its answer
+
+-- the number that document 01 gives to an answer: 0 where nothing is refused
+abbrev pub answerNumber : Answer → ℕ
+answerNumber (Refused why) = refusalNumber why
+answerNumber (IsMessage m) = 0
+answerNumber IsToken = 0
 
 unfoldable pub blankToken : Token
 blankToken =

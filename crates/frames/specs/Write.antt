@@ -4,6 +4,7 @@ use mathlib.Core.Bool.{Bool, cond}
 use mathlib.Core.List.{List, _++_}
 use lib.ListN.{length, drop}
 use lib.Dec.{leb}
+use Rattle.frames.specs.Refusal.{refusalNumber}
 use Rattle.frames.specs.Message.{messageFollows, messageBytes}
 use Rattle.frames.specs.Token.{tokenFollows, tokenBytes}
 use Rattle.frames.specs.declared.refusal.Refusal.{Refusal}
@@ -12,6 +13,11 @@ use Rattle.frames.specs.declared.writer.Written.{Written}
 use Rattle.frames.specs.declared.writer.Written.the-variants.{Size, Refused}
 use Rattle.frames.specs.declared.message.Message.{Message}
 use Rattle.frames.specs.declared.token.Token.{Token}
+
+-- the number that document 01 gives to an answer: 0 where nothing is refused
+abbrev pub writtenNumber : Written → ℕ
+writtenNumber (Size n) = 0
+writtenNumber (Refused why) = refusalNumber why
 
 -- the answer, and the whole buffer afterwards
 pub record Writing : Type 0 where
