@@ -14,7 +14,7 @@ use Rattle.words.proofs.WordLaws.{word-back}
 use Rattle.words.proofs.RunLaws.{words-back}
 use Rattle.words.proofs.ScanLaws.{within-most, zeros-are}
 use Rattle.frames.specs.Number.{mostNumber}
-use Rattle.frames.specs.Layout.{lengthAt, lengthSize, kindAt, configurationAt, messageKind, messageSize, requestsAt, mostRequests, tokenKind, tokenSize}
+use Rattle.frames.specs.Layout.{lengthAt, lengthSize, kindAt, headerSize, configurationAt, messageKind, messageSize, requestsAt, mostRequests, tokenKind, tokenSize}
 use Rattle.frames.specs.Header.{headerOf, headerFollows, headerBytes}
 use Rattle.frames.specs.Message.{configuration, messageOf, contentOf, messageFollows, messageFixed, messageBytes}
 use Rattle.frames.specs.Token.{blockerOf, blockerId, blockerFollows, requestCount, requestsOf, tokenOf, tokenFollows, tokenFixed, tokenBytes}
@@ -22,12 +22,27 @@ use Rattle.frames.specs.RoundTrip.{MessageRestored, TokenRestored}
 use Rattle.frames.specs.declared.token.Blocker.{Blocker}
 use Rattle.frames.specs.declared.token.Blocker.the-variants.{Nobody, Member}
 use Rattle.frames.specs.declared.token.Token.{Token}
+use Rattle.frames.specs.declared.header.Header.{Header}
 use Rattle.frames.specs.declared.message.Message.{Message}
 use Rattle.frames.proofs.Facts.{part, HeaderFacts, header-facts, MessageFacts, message-facts, RequestFacts, TokenFacts, token-facts}
 use Rattle.frames.proofs.Sizes.{message-length, token-length}
 use Rattle.frames.proofs.ReadLaws.{read-as-message, read-as-token, message-right, token-right}
 
+-- ---- the header, of any kind
+
+header-same : (h : Header) (ring representative : ℕ) → ring ≡ h .ring .0 → representative ≡ h .representative → record { ring = record { 0 = ring }; representative = representative } ≡ h
+header-same h ring representative e f = rw (e, f)
+
+header-back : (size kind : ℕ) (h : Header) (rest : List ℕ) → headerFollows h ≡ true → headerOf (headerBytes size kind h ++ rest) ≡ h
+unfolding wordAt wordOf wordBytes headerOf headerBytes
+header-back size kind h rest follows =
+    let facts = header-facts h follows in
+    header-same h _ _ (word-back 4 (h .ring .0) (omega (arith, facts .ring .high))) (word-back 2 (h .representative) (omega (arith, facts .representative .high)))
+
 -- ---- a message
+
+message-same : (m : Message) (header : Header) (sender number service : ℕ) → header ≡ m .header → sender ≡ m .sender → number ≡ m .number .0 → service ≡ m .service → record { header = header; sender = sender; number = record { 0 = number }; service = service } ≡ m
+message-same m header sender number service e f g h = rw (e, f, g, h)
 
 module _ (m : Message) (content : List ℕ) (facts : MessageFacts m content) where
   message-length-back : wordAt 2 (messageBytes m content) lengthAt ≡ messageSize (length content) - lengthSize
@@ -37,13 +52,11 @@ module _ (m : Message) (content : List ℕ) (facts : MessageFacts m content) whe
   message-back : messageOf (messageBytes m content) ≡ m
   unfolding wordAt wordOf wordBytes headerOf headerBytes messageFixed messageOf
   message-back =
-      let h = header-facts (m .header) (facts .header) in
-      let ring = word-back 4 (m .header .ring .0) (omega (arith, h .ring .high)) in
-      let representative = word-back 2 (m .header .representative) (omega (arith, h .representative .high)) in
-      let sender = word-back 2 (m .sender) (omega (arith, facts .sender .high)) in
-      let number = word-back 4 (m .number .0) (omega (arith, facts .number .high)) in
-      let service = word-back 2 (m .service) (omega (arith, facts .service)) in
-      rw (ring, representative, sender, number, service)
+      message-same m _ _ _ _
+      (header-back (messageSize (length content)) messageKind (m .header) (drop headerSize (messageBytes m content)) (facts .header))
+      (word-back 2 (m .sender) (omega (arith, facts .sender .high)))
+      (word-back 4 (m .number .0) (omega (arith, facts .number .high)))
+      (word-back 2 (m .service) (omega (arith, facts .service)))
 
 message-kind : (m : Message) (content : List ℕ) → wordAt 2 (messageBytes m content) kindAt ≡ messageKind
 unfolding wordAt wordOf wordBytes headerBytes messageFixed
@@ -88,6 +101,9 @@ requests-back n requests highest most facts =
     let zeros : drop n requests ≡ replicate (mostRequests - n) 0 = rw rest at (zeros-are (drop n requests) (facts .rest)) in
     rw (first, ← zeros) (take-append-drop n requests)
 
+token-same : (t : Token) (header : Header) (addressee number highest aru : ℕ) (blocker : Blocker) (round count : ℕ) (requests : List ℕ) → header ≡ t .header → addressee ≡ t .addressee → number ≡ t .number .0 → highest ≡ t .highest .0 → aru ≡ t .aru .0 → blocker ≡ t .blocker → round ≡ t .round → count ≡ t .count → requests ≡ t .requests → record { header = header; addressee = addressee; number = record { 0 = number }; highest = record { 0 = highest }; aru = record { 0 = aru }; blocker = blocker; round = round; count = count; requests = requests } ≡ t
+token-same t header addressee number highest aru blocker round count requests e₁ e₂ e₃ e₄ e₅ e₆ e₇ e₈ e₉ = rw (e₁, e₂, e₃, e₄, e₅, e₆, e₇, e₈, e₉)
+
 module _ (t : Token) (facts : TokenFacts t) where
   token-length-back : wordAt 2 (tokenBytes t) lengthAt ≡ tokenSize (t .count) - lengthSize
   unfolding wordAt wordOf wordBytes headerBytes tokenFixed
@@ -104,17 +120,17 @@ module _ (t : Token) (facts : TokenFacts t) where
   token-back : tokenOf (tokenBytes t) ≡ t
   unfolding wordAt wordOf wordBytes headerOf headerBytes tokenFixed tokenOf
   token-back =
-      let h = header-facts (t .header) (facts .header) in
       let blocked = blocker-back (t .blocker) (t .aru .0) (t .highest .0) (facts .blocker) in
-      let ring = word-back 4 (t .header .ring .0) (omega (arith, h .ring .high)) in
-      let representative = word-back 2 (t .header .representative) (omega (arith, h .representative .high)) in
-      let addressee = word-back 2 (t .addressee) (omega (arith, facts .addressee .high)) in
-      let number = word-back 4 (t .number .0) (omega (arith, facts .number .high)) in
-      let highest = word-back 4 (t .highest .0) (omega (arith, facts .highest)) in
-      let aru = word-back 4 (t .aru .0) (omega (arith, facts .aru, facts .highest)) in
-      let blocker = word-back 2 (blockerId (t .blocker)) (blocked .0) in
-      let round = word-back 2 (t .round) (omega (arith, facts .round)) in
-      rw (ring, representative, addressee, number, highest, aru, blocker, blocked .1, round, token-count-back, token-requests-back)
+      token-same t _ _ _ _ _ _ _ _ _
+      (header-back (tokenSize (t .count)) tokenKind (t .header) (drop headerSize (tokenBytes t)) (facts .header))
+      (word-back 2 (t .addressee) (omega (arith, facts .addressee .high)))
+      (word-back 4 (t .number .0) (omega (arith, facts .number .high)))
+      (word-back 4 (t .highest .0) (omega (arith, facts .highest)))
+      (word-back 4 (t .aru .0) (omega (arith, facts .aru, facts .highest)))
+      (ap blockerOf (word-back 2 (blockerId (t .blocker)) (blocked .0)) ∙ blocked .1)
+      (word-back 2 (t .round) (omega (arith, facts .round)))
+      token-count-back
+      (rw token-count-back token-requests-back)
 
 token-kind : (t : Token) → wordAt 2 (tokenBytes t) kindAt ≡ tokenKind
 unfolding wordAt wordOf wordBytes headerBytes tokenFixed
