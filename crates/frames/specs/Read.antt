@@ -1,12 +1,13 @@
 -- Reading a frame: any list of bytes gives values, or the first of questions 10 to 12 that fails. [document 01, Questions at the door]
-use Prim.Native.Nat.{ℕ, _+_}
+use Prim.Native.Nat.{ℕ}
 use mathlib.Core.Bool.{Bool, _&&_, cond}
 use mathlib.Core.List.{List}
 use lib.ListN.{length, replicate}
 use lib.Dec.{leb, eqb}
 use Rattle.words.specs.Word.{wordAt}
-use Rattle.frames.specs.Layout.{lengthAt, lengthSize, kindAt, headerSize, configurationAt, contentAt, messageKind, requestsAt, mostRequests, tokenKind, tokenSize}
+use Rattle.frames.specs.Layout.{kindAt, headerSize, configurationAt, contentAt, messageKind, requestsAt, mostRequests, tokenKind, tokenSize}
 use Rattle.frames.specs.Refusal.{refusalNumber}
+use Rattle.frames.specs.Header.{ownSize}
 use Rattle.frames.specs.Message.{configuration, messageOf, contentOf, messageFollows}
 use Rattle.frames.specs.Token.{requestCount, tokenOf, tokenFollows}
 use Rattle.frames.specs.declared.refusal.Refusal.{Refusal}
@@ -53,7 +54,7 @@ aToken t = record { answer = IsToken; token = t }
 
 -- 10. Has the frame at least 10 bytes, its length exact?
 abbrev pub lengthExact : List ℕ → Bool
-lengthExact s = leb headerSize (length s) && eqb (length s) (lengthSize + wordAt 2 s lengthAt)
+lengthExact s = leb headerSize (length s) && eqb (length s) (ownSize s)
 
 -- 12, of a message: is it long enough, the configuration zero, and do its values follow?
 abbrev pub messageReads : List ℕ → Bool

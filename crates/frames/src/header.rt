@@ -3,7 +3,7 @@ ghost use mathlib.Core.Path.{_≡_};
 ghost use Prim.Native.Nat.{_≤_, _<_};
 ghost use lib.ListN.{length};
 ghost use lib.Seq.{sets};
-ghost use Rattle.frames.specs.Header.{headerOf, headerFollows, headerBytes};
+ghost use Rattle.frames.specs.Header.{framedSize, headerOf, headerFollows, headerBytes};
 ghost use Rattle.frames.specs.Layout.{lengthSize, headerSize};
 use crate::layout;
 use crate::number;
@@ -12,6 +12,18 @@ use crate::number::RingNumber;
 pub struct Header {
     pub ring: RingNumber,
     pub representative: u16,
+}
+
+// How long the frame is that a stream of bytes begins with, by its own length field; 0 while that
+// field has not come whole. Ruled out: the length field's own bytes not counted; a guess from one
+// byte.
+pub fn framed_size(stream: &[u8]) -> usize
+    ensures { λ r. ⌜ r ≡ framedSize (now (stream .entry)) ⌝ }
+{
+    if stream.len() < layout::LENGTH_SIZE {
+        return 0;
+    }
+    layout::LENGTH_SIZE + words::get_u16(stream, layout::LENGTH_AT) as usize
 }
 
 pub fn header_of(frame: &[u8]) -> Header

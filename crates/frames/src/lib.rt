@@ -10,6 +10,7 @@ mod token;
 mod writer;
 
 pub use header::Header;
+pub use header::framed_size;
 pub use message::Message;
 pub use message::content;
 pub use message::message_follows;
