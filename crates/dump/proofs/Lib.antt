@@ -1,0 +1,6 @@
+pub mod ShiftLaws
+pub mod PutLaws
+pub mod TextLaws
+pub mod Longest
+pub mod LineLaws
+pub mod Trials

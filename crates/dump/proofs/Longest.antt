@@ -1,0 +1,115 @@
+-- No line is longer than the longest.
+use Prim.Native.Nat.{ℕ, zero, suc, _+_, _*_, _/_, _%_, _≤_}
+use mathlib.Core.Path.{_≡_, refl}
+use mathlib.Core.Bool.{Bool, true, false, cond, and-false}
+use mathlib.Core.List.{List, [], _∷_, _++_}
+use native.Mathlib.Nat.{mul-suc}
+use native.Mathlib.Omega.{arith}
+use lib.Dec.{ltb, eqb}
+use lib.ListN.{length, take, length-append, length-take}
+use Rattle.words.specs.Word.{wordAt}
+use Rattle.frames.specs.Layout.{kindAt, messageKind, mostContent, tokenKind, mostRequests}
+use Rattle.frames.specs.Message.{messageOf, contentOf, messageFollows}
+use Rattle.frames.specs.Token.{tokenOf, tokenFollows}
+use Rattle.frames.specs.Refusal.{refusalNumber}
+use Rattle.frames.specs.Read.{lengthExact, messageReads, tokenReads, readMessage, readToken, readKind, readOf, aMessage, aToken, refused}
+use Rattle.frames.proofs.Facts.{part, message-facts, token-facts}
+use Rattle.frames.specs.declared.message.Message.{Message}
+use Rattle.frames.specs.declared.refusal.Refusal.the-variants.{WrongLength, OtherKind, Malformed}
+use Rattle.frames.specs.declared.token.Token.{Token}
+use Rattle.frames.specs.declared.token.Blocker.{Blocker}
+use Rattle.frames.specs.declared.token.Blocker.the-variants.{Nobody, Member}
+use Rattle.frames.specs.declared.reader.Reading.{Reading}
+use Rattle.dump.specs.Text.{digitsTo, isPlain, escapedByte, each}
+use Rattle.dump.specs.Line.{longestLine, headerText, messageFields, messageLine, blockerText, following, listed, requestsText, tokenFields, tokenLine, refusalLine, answerLine, lineOf}
+
+-- ---- pieces
+
+one-more : (b : Bool) (most x y : ℕ) (xs : List ℕ) → length xs ≤ most → length (cond b (x ∷ []) (xs ++ (y ∷ []))) ≤ suc most
+one-more true most x y xs h = omega arith
+one-more false most x y xs h = simp length-append (omega arith)
+
+length-digits : (most n : ℕ) → length (digitsTo most n) ≤ most
+unfolding digitsTo
+length-digits zero n = omega arith
+length-digits (suc most) n = one-more (ltb n 10) most (48 + n) (48 + n % 10) (digitsTo most (n / 10)) (length-digits most (n / 10))
+
+either : (b : Bool) (x y₁ y₂ y₃ y₄ : ℕ) → length (cond b (x ∷ []) (y₁ ∷ y₂ ∷ y₃ ∷ y₄ ∷ [])) ≤ 4
+either true x y₁ y₂ y₃ y₄ = omega arith
+either false x y₁ y₂ y₃ y₄ = omega arith
+
+length-escaped-byte : (b : ℕ) → length (escapedByte b) ≤ 4
+length-escaped-byte b = either (isPlain b) _ _ _ _ _
+
+length-following : (n : ℕ) → length (following n) ≤ 11
+length-following n = simp length-append (omega (arith, length-digits 10 n))
+
+length-each : (f : ℕ → List ℕ) (most : ℕ) → ((x : ℕ) → length (f x) ≤ most) → (xs : List ℕ) → length (each f xs) ≤ most * length xs
+unfolding each
+length-each f most h [] = omega arith
+length-each f most h (x ∷ xs) = rw (length-append, mul-suc) (omega (arith, h x, length-each f most h xs))
+
+length-listed : (xs : List ℕ) → length (listed xs) ≤ 11 * length xs
+length-listed [] = omega arith
+length-listed (x ∷ xs) = simp length-append (omega (arith, length-digits 10 x, length-each following 11 length-following xs))
+
+length-blocker : (b : Blocker) → length (blockerText b) ≤ 18
+length-blocker Nobody = omega arith
+length-blocker (Member id) = simp length-append (omega (arith, length-digits 10 id))
+
+-- ---- lines
+
+length-message : (m : Message) (content : List ℕ) → length content ≤ mostContent → length (messageLine m content) ≤ longestLine
+unfolding messageLine messageFields headerText
+length-message m content h =
+    simp length-append
+    (omega
+    (arith, length-digits 10 (m .header .ring .0), length-digits 10 (m .header .representative), length-digits 10 (m .sender), length-digits 10 (m .number .0), length-digits 10 0, length-digits 10 (m .service), length-each escapedByte 4 length-escaped-byte content))
+
+length-token : (t : Token) → t .count ≤ mostRequests → length (tokenLine t) ≤ longestLine
+unfolding tokenLine tokenFields headerText requestsText
+length-token t h =
+    simp length-append
+    (omega
+    (arith, length-digits 10 (t .header .ring .0), length-digits 10 (t .header .representative), length-digits 10 (t .addressee), length-digits 10 (t .number .0), length-digits 10 (t .highest .0), length-digits 10 (t .aru .0), length-blocker (t .blocker), length-digits 10 (t .round), length-listed (take (t .count) (t .requests)), length-take (t .count) (t .requests)))
+
+length-refusal : (number : ℕ) → length (refusalLine number) ≤ longestLine
+unfolding refusalLine
+length-refusal number = simp length-append (omega (arith, length-digits 10 number))
+
+-- ---- every way to read
+
+abbrev Short : List ℕ → Reading → Type 0
+Short content r = length (answerLine (r .answer) (r .token) content) ≤ longestLine
+
+branch : (b : Bool) (content : List ℕ) (x y : Reading) → (b ≡ true → Short content x) → Short content y → Short content (cond b x y)
+branch true content x y f h = f refl
+branch false content x y f h = h
+
+short-message : (s : List ℕ) → Short (contentOf s) (readMessage s)
+unfolding readMessage
+short-message s =
+    let m = messageOf s in
+    let content = contentOf s in
+    branch (messageReads s) content (aMessage m) (refused Malformed)
+    (λ (e : messageReads s ≡ true). length-message m content ((message-facts m content (part e (λ (f : messageFollows m content ≡ false). simp (f, and-false)))) .short))
+    (length-refusal (refusalNumber Malformed))
+
+short-token : (s : List ℕ) → Short (contentOf s) (readToken s)
+unfolding readToken
+short-token s =
+    let t = tokenOf s in
+    branch (tokenReads s) (contentOf s) (aToken t) (refused Malformed)
+    (λ (e : tokenReads s ≡ true). length-token t ((token-facts t (part e (λ (f : tokenFollows t ≡ false). simp (f, and-false)))) .requests .few))
+    (length-refusal (refusalNumber Malformed))
+
+short-kind : (s : List ℕ) → Short (contentOf s) (readKind (wordAt 2 s kindAt) s)
+short-kind s =
+    let kind = wordAt 2 s kindAt in
+    branch (eqb kind messageKind) (contentOf s) (readMessage s) (cond (eqb kind tokenKind) (readToken s) (refused OtherKind))
+    (λ e. short-message s)
+    (branch (eqb kind tokenKind) (contentOf s) (readToken s) (refused OtherKind) (λ e. short-token s) (length-refusal (refusalNumber OtherKind)))
+
+pub line-short : (s : List ℕ) → length (lineOf s) ≤ longestLine
+unfolding lineOf readOf
+line-short s = branch (lengthExact s) (contentOf s) (readKind (wordAt 2 s kindAt) s) (refused WrongLength) (λ e. short-kind s) (length-refusal (refusalNumber WrongLength))
