@@ -1,12 +1,12 @@
 -- Texts put one after another into a buffer.
 use Prim.Native.Nat.{ℕ, _+_, _-_, _<_, _≤_}
-use mathlib.Core.Path.{_≡_, refl, sym, ap, _∙_}
+use mathlib.Core.Path.{_≡_, refl, sym, _∙_}
 use mathlib.Core.List.{List, [], _∷_, _++_, append-assoc, append-nil}
 use native.Mathlib.Nat.{add-zero}
 use native.Mathlib.Numerals.{add-one}
 use native.Mathlib.Omega.{arith}
 use lib.ListN.{length, getD, take, length-append}
-use lib.Seq.{sets, length-sets, take-suc, take-all}
+use lib.Seq.{take-suc, take-all}
 use Rattle.words.proofs.StoreLaws.{sets-append}
 use Rattle.dump.specs.Text.{Put, each}
 
@@ -17,9 +17,6 @@ put-beyond out at text h = record { size = refl; within = omega arith; stored = 
 
 pub put-left-out : (out : List ℕ) (at : ℕ) (text : List ℕ) → at ≤ length out → length out - at < length text → Put out at text at out
 put-left-out out at text h full = record { size = refl; within = h; stored = λ room. (omega arith, absurd (omega arith)) }
-
-pub put-whole : (out : List ℕ) (at : ℕ) (text out′ : List ℕ) → at + length text ≤ length out → out′ ≡ sets out at text → Put out at text (at + length text) out′
-put-whole out at text out′ room e = record { size = ap length e ∙ length-sets out at text; within = room; stored = λ again. (refl, e) }
 
 -- ---- several
 

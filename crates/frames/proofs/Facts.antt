@@ -1,5 +1,5 @@
 -- What a value that follows the layout tells, as facts about numbers.
-use Prim.Native.Nat.{ℕ, _<_, _≤_}
+use Prim.Native.Nat.{ℕ, _≤_}
 use mathlib.Core.Path.{_≡_, refl, sym, _∙_}
 use mathlib.Core.Bool.{Bool, true, false, and-false}
 use mathlib.Core.List.{List}
@@ -7,7 +7,7 @@ use borrow.Author.Tests.{leb-true, eqb-true}
 use native.Mathlib.Omega.{arith}
 use lib.ListN.{length, take, drop}
 use lib.Dec.{leb, eqb}
-use Rattle.words.specs.Scan.{allWithin, allZero, distinct}
+use Rattle.words.specs.Scan.{allWithin, allZero}
 use Rattle.frames.specs.Number.{mostNumber, isNumber, isId}
 use Rattle.frames.specs.Layout.{mostContent, mostRound, mostRequests}
 use Rattle.frames.specs.Header.{headerFollows}

@@ -1,9 +1,9 @@
 -- Reading what was written restores the values.
-use Prim.Native.Nat.{ℕ, zero, suc, _+_, _-_, _*_, _^_, _<_, _≤_}
+use Prim.Native.Nat.{ℕ, _+_, _-_, _^_, _<_, _≤_}
 use mathlib.Core.Path.{_≡_, refl, sym, ap, _∙_}
-use mathlib.Core.Bool.{Bool, true, false, and-false}
+use mathlib.Core.Bool.{true, false, and-false}
 use mathlib.Core.List.{List, [], _++_, append-nil}
-use borrow.Author.Tests.{eq-eqb, ne-eqb, leb-true}
+use borrow.Author.Tests.{ne-eqb, leb-true}
 use native.Mathlib.Omega.{arith}
 use lib.ListN.{length, getD, take, drop, replicate, length-drop, take-append-drop}
 use lib.Dec.{leb}
@@ -14,17 +14,17 @@ use Rattle.words.proofs.WordLaws.{word-back}
 use Rattle.words.proofs.RunLaws.{words-back}
 use Rattle.words.proofs.ScanLaws.{within-most, zeros-are}
 use Rattle.frames.specs.Number.{mostNumber}
-use Rattle.frames.specs.Layout.{lengthAt, lengthSize, kindAt, headerSize, configurationAt, messageKind, messageSize, requestsAt, mostRequests, tokenKind, tokenSize}
+use Rattle.frames.specs.Layout.{lengthAt, lengthSize, kindAt, headerSize, configurationAt, messageKind, messageSize, mostRequests, tokenKind, tokenSize}
 use Rattle.frames.specs.Header.{headerOf, headerFollows, headerBytes}
-use Rattle.frames.specs.Message.{configuration, messageOf, contentOf, messageFollows, messageFixed, messageBytes}
-use Rattle.frames.specs.Token.{blockerOf, blockerId, blockerFollows, requestCount, requestsOf, tokenOf, tokenFollows, tokenFixed, tokenBytes}
+use Rattle.frames.specs.Message.{configuration, messageOf, contentOf, messageFixed, messageBytes}
+use Rattle.frames.specs.Token.{blockerOf, blockerId, blockerFollows, requestCount, requestsOf, tokenOf, tokenFixed, tokenBytes}
 use Rattle.frames.specs.RoundTrip.{MessageRestored, TokenRestored}
 use Rattle.frames.specs.declared.token.Blocker.{Blocker}
 use Rattle.frames.specs.declared.token.Blocker.the-variants.{Nobody, Member}
 use Rattle.frames.specs.declared.token.Token.{Token}
 use Rattle.frames.specs.declared.header.Header.{Header}
 use Rattle.frames.specs.declared.message.Message.{Message}
-use Rattle.frames.proofs.Facts.{part, HeaderFacts, header-facts, MessageFacts, message-facts, RequestFacts, TokenFacts, token-facts}
+use Rattle.frames.proofs.Facts.{part, header-facts, MessageFacts, message-facts, RequestFacts, TokenFacts, token-facts}
 use Rattle.frames.proofs.Sizes.{message-length, token-length}
 use Rattle.frames.proofs.ReadLaws.{read-as-message, read-as-token, message-right, token-right}
 

@@ -1,14 +1,14 @@
 -- A frame that reads is the one that its values write.
-use Prim.Native.Nat.{ℕ, zero, suc, _+_, _-_, _*_, _<_, _≤_}
-use mathlib.Core.Path.{_≡_, refl, sym, ap, _∙_}
+use Prim.Native.Nat.{ℕ, zero, suc, _+_, _-_, _*_, _≤_}
+use mathlib.Core.Path.{_≡_, refl, sym, ap}
 use mathlib.Core.Bool.{Bool, true, false, cond, and-false}
 use mathlib.Core.List.{List, [], _++_, append-assoc, append-nil}
-use borrow.Author.Tests.{eq-eqb, ne-eqb, eqb-true, leb-true}
+use borrow.Author.Tests.{ne-eqb, eqb-true, leb-true}
 use native.Mathlib.Omega.{arith}
 use lib.ListN.{length, take, drop, replicate, length-drop, drop-of-length-le}
 use lib.Dec.{leb, eqb}
 use lib.Seq.{take-at}
-use Rattle.words.specs.Word.{Bytes, wordAt, wordBytes}
+use Rattle.words.specs.Word.{Bytes, wordAt}
 use Rattle.words.specs.Run.{words, wordsBytes}
 use Rattle.words.proofs.WordLaws.{word-split, bytes-drop}
 use Rattle.words.proofs.RunLaws.{length-words, words-there}

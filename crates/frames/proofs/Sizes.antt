@@ -1,9 +1,8 @@
 -- How many bytes each part of a frame has.
-use Prim.Native.Nat.{ℕ, _+_, _*_, _≤_}
-use mathlib.Core.Path.{_≡_, refl, _∙_}
-use mathlib.Core.List.{List, _++_}
-use native.Mathlib.Omega.{arith}
-use lib.ListN.{length, take, length-append, length-take}
+use Prim.Native.Nat.{ℕ, _≤_}
+use mathlib.Core.Path.{_≡_}
+use mathlib.Core.List.{List}
+use lib.ListN.{length, length-append}
 use lib.Seq.{length-take-le}
 use Rattle.words.proofs.WordLaws.{length-word}
 use Rattle.words.proofs.RunLaws.{length-words-bytes}

@@ -1,10 +1,10 @@
 -- Document 01's frames, computed from the definitions: one table, one theorem.
-use Prim.Native.Nat.{ℕ, zero, suc, _+_, _-_}
+use Prim.Native.Nat.{ℕ, zero, suc, _-_}
 use mathlib.Core.Path.{_≡_, refl}
 use mathlib.Core.Bool.{Bool, true, false, _&&_}
 use mathlib.Core.List.{List, [], _∷_, _++_}
-use lib.ListN.{length, take, drop, replicate}
-use lib.Dec.{leb, eqb}
+use lib.ListN.{length, take, replicate}
+use lib.Dec.{eqb}
 use Rattle.words.specs.Word.{wordBytes, wordOf, wordAt}
 use Rattle.words.specs.Run.{words, wordsBytes}
 use Rattle.words.specs.Scan.{every}

@@ -1,6 +1,6 @@
 -- Kind 2, token. [document 01, Frames; the paper's token: token_seq, seq, aru, aru_id, rtr, and fcc of its flow control]
 use Prim.Native.Nat.{ℕ, _-_}
-use mathlib.Core.Bool.{Bool, true, false, not, _&&_, cond}
+use mathlib.Core.Bool.{Bool, not, _&&_, cond}
 use mathlib.Core.List.{List, _++_}
 use lib.ListN.{length, take, drop, replicate}
 use lib.Dec.{leb, eqb}

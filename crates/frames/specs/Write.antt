@@ -7,7 +7,6 @@ use lib.Dec.{leb}
 use Rattle.frames.specs.Refusal.{refusalNumber}
 use Rattle.frames.specs.Message.{messageFollows, messageBytes}
 use Rattle.frames.specs.Token.{tokenFollows, tokenBytes}
-use Rattle.frames.specs.declared.refusal.Refusal.{Refusal}
 use Rattle.frames.specs.declared.refusal.Refusal.the-variants.{NoRoom, Malformed}
 use Rattle.frames.specs.declared.writer.Written.{Written}
 use Rattle.frames.specs.declared.writer.Written.the-variants.{Size, Refused}

@@ -1,7 +1,5 @@
 // The reader.
 ghost use mathlib.Core.Path.{_≡_};
-ghost use Prim.Native.Nat.{_≤_};
-ghost use lib.ListN.{length};
 ghost use Rattle.frames.specs.Read.{readOf, readMessage, readToken, blankToken, refused};
 use crate::header::Header;
 use crate::layout;

@@ -2,12 +2,12 @@
 use Prim.Native.Nat.{ℕ, zero, suc, _+_, _*_, _-_, _^_, _<_, _≤_}
 use mathlib.Core.Path.{_≡_, refl, sym, ap, _∙_}
 use mathlib.Core.List.{List, [], _∷_, _++_, append-assoc}
-use native.Mathlib.Nat.{mul-suc, mul-zero, add-zero, add-suc, sub-zero, add-sub-cancel-left, zero-add}
+use native.Mathlib.Nat.{mul-zero, add-zero, add-suc, sub-zero, add-sub-cancel-left, zero-add}
 use native.Mathlib.Numerals.{add-one}
 use native.Mathlib.Omega.{arith}
 use lib.ListN.{length, getD, set, take, drop, length-append, length-set, length-drop, drop-of-length-le}
-use lib.Seq.{sets, sets-eq, drop-cons, drop-drop, take-at, drop-at, length-sets}
-use Rattle.words.specs.Word.{Bytes, wordBytes, wordOf, wordAt}
+use lib.Seq.{sets, drop-cons, drop-drop, take-at, drop-at, length-sets}
+use Rattle.words.specs.Word.{Bytes, wordBytes, wordAt}
 use Rattle.words.specs.Run.{words, wordsBytes}
 use Rattle.words.proofs.WordLaws.{length-part, length-word, word-back, word-split, bytes-drop}
 use Rattle.words.proofs.StoreLaws.{sets-append, front-stored}
