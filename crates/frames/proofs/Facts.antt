@@ -8,8 +8,8 @@ use native.Mathlib.Omega.{arith}
 use lib.ListN.{length, take, drop}
 use lib.Dec.{leb, eqb}
 use Rattle.words.specs.Scan.{allWithin, allZero}
-use Rattle.frames.specs.Number.{mostNumber, isNumber, isId}
-use Rattle.frames.specs.Layout.{mostContent, mostRound, mostRequests}
+use Rattle.frames.specs.Number.{mostNumber, isNumber, mostId, isId}
+use Rattle.frames.specs.Layout.{mostService, mostContent, mostRound, mostRequests}
 use Rattle.frames.specs.Header.{headerFollows}
 use Rattle.frames.specs.Message.{messageFollows}
 use Rattle.frames.specs.Token.{blockerFollows, requestsFollow, tokenFollows}
@@ -39,18 +39,18 @@ number-within n e =
       high = leb-true n mostNumber (part e (λ (f : leb n mostNumber ≡ false). simp (f, and-false)));
     }
 
-id-within : (n : ℕ) → isId n ≡ true → Within 65535 n
+id-within : (n : ℕ) → isId n ≡ true → Within mostId n
 id-within n e =
     record {
       low = leb-true 1 n (part e (λ (f : leb 1 n ≡ false). rw f));
-      high = leb-true n 65535 (part e (λ (f : leb n 65535 ≡ false). simp (f, and-false)));
+      high = leb-true n mostId (part e (λ (f : leb n mostId ≡ false). simp (f, and-false)));
     }
 
 -- ---- header, message, token
 
 pub record HeaderFacts (h : Header) : Type 0 where
   pub ring : Within mostNumber (h .ring .0)
-  pub representative : Within 65535 (h .representative)
+  pub representative : Within mostId (h .representative)
 
 pub header-facts : (h : Header) → headerFollows h ≡ true → HeaderFacts h
 unfolding headerFollows
@@ -62,9 +62,9 @@ header-facts h e =
 
 pub record MessageFacts (m : Message) (content : List ℕ) : Type 0 where
   pub header : headerFollows (m .header) ≡ true
-  pub sender : Within 65535 (m .sender)
+  pub sender : Within mostId (m .sender)
   pub number : Within mostNumber (m .number .0)
-  pub service : m .service ≤ 1
+  pub service : m .service ≤ mostService
   pub short : length content ≤ mostContent
 
 pub message-facts : (m : Message) (content : List ℕ) → messageFollows m content ≡ true → MessageFacts m content
@@ -74,7 +74,7 @@ message-facts m content e =
       header = part e (λ (f : headerFollows (m .header) ≡ false). rw f);
       sender = id-within (m .sender) (part e (λ (f : isId (m .sender) ≡ false). simp (f, and-false)));
       number = number-within (m .number .0) (part e (λ (f : isNumber (m .number .0) ≡ false). simp (f, and-false)));
-      service = leb-true (m .service) 1 (part e (λ (f : leb (m .service) 1 ≡ false). simp (f, and-false)));
+      service = leb-true (m .service) mostService (part e (λ (f : leb (m .service) mostService ≡ false). simp (f, and-false)));
       short = leb-true (length content) mostContent (part e (λ (f : leb (length content) mostContent ≡ false). simp (f, and-false)));
     }
 
@@ -96,7 +96,7 @@ request-facts n requests highest e =
 
 pub record TokenFacts (t : Token) : Type 0 where
   pub header : headerFollows (t .header) ≡ true
-  pub addressee : Within 65535 (t .addressee)
+  pub addressee : Within mostId (t .addressee)
   pub number : Within mostNumber (t .number .0)
   pub highest : t .highest .0 ≤ mostNumber
   pub aru : t .aru .0 ≤ t .highest .0

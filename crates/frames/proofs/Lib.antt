@@ -1,7 +1,8 @@
+pub mod RefusalLaws
 pub mod Facts
 pub mod Sizes
 pub mod PutLaws
-pub mod RequestLaws
+pub mod TokenLaws
 pub mod ReadLaws
 pub mod WriteLaws
 pub mod Restored

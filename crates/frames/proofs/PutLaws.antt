@@ -6,7 +6,7 @@ use lib.Seq.{sets}
 use Rattle.words.specs.Word.{wordBytes}
 use Rattle.words.proofs.StoreLaws.{stored-none, stored-next}
 use Rattle.words.proofs.WordLaws.{stored-word}
-use Rattle.frames.specs.Layout.{lengthAt, lengthSize, kindAt, ringAt, representativeAt, messageKind, senderAt, messageNumberAt, configurationAt, serviceAt, tokenKind, tokenSize, addresseeAt, tokenNumberAt, highestAt, aruAt, blockerAt, roundAt, countAt}
+use Rattle.frames.specs.Layout.{lengthAt, lengthSize, kindAt, ringAt, representativeAt, headerSize, messageKind, senderAt, messageNumberAt, configurationAt, serviceAt, tokenKind, tokenSize, addresseeAt, tokenNumberAt, highestAt, aruAt, blockerAt, roundAt, countAt}
 use Rattle.frames.specs.Header.{headerBytes}
 use Rattle.frames.specs.Message.{configuration, messageFixed}
 use Rattle.frames.specs.Token.{blockerId, tokenFixed}
@@ -38,7 +38,7 @@ pub message-stored : (m : Message) (size : ℕ) (l l₁ l₂ l₃ l₄ l₅ : Li
     → l₅ ≡ sets l 0 (messageFixed m size)
 unfolding messageFixed
 message-stored m size l l₁ l₂ l₃ l₄ l₅ e₁ e₂ e₃ e₄ e₅ =
-    let w₁ = stored-next 10 (headerBytes size messageKind (m .header)) l₁ (stored-none l 0) (header-length size messageKind (m .header)) e₁ in
+    let w₁ = stored-next headerSize (headerBytes size messageKind (m .header)) l₁ (stored-none l 0) (header-length size messageKind (m .header)) e₁ in
     let w₂ = stored-word 2 (m .sender) l₂ w₁ e₂ in
     let w₃ = stored-word 4 (m .number .0) l₃ w₂ e₃ in
     let w₄ = stored-word 4 configuration l₄ w₃ e₄ in
@@ -59,7 +59,7 @@ pub token-stored : (t : Token) (size blocker : ℕ) (l l₁ l₂ l₃ l₄ l₅ 
     → l₈ ≡ sets l 0 (tokenFixed t)
 unfolding tokenFixed
 token-stored t size blocker l l₁ l₂ l₃ l₄ l₅ l₆ l₇ l₈ sized blocked e₁ e₂ e₃ e₄ e₅ e₆ e₇ e₈ =
-    let w₁ = stored-next 10 (headerBytes size tokenKind (t .header)) l₁ (stored-none l 0) (header-length size tokenKind (t .header)) e₁ in
+    let w₁ = stored-next headerSize (headerBytes size tokenKind (t .header)) l₁ (stored-none l 0) (header-length size tokenKind (t .header)) e₁ in
     let w₂ = stored-word 2 (t .addressee) l₂ w₁ e₂ in
     let w₃ = stored-word 4 (t .number .0) l₃ w₂ e₃ in
     let w₄ = stored-word 4 (t .highest .0) l₄ w₃ e₄ in

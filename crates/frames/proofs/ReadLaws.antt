@@ -1,15 +1,17 @@
 -- The reader's definition at each way out of its code.
 use Prim.Native.Nat.{ℕ, _+_, _<_, _≤_}
-use mathlib.Core.Path.{_≡_, sym, ap, _∙_}
-use mathlib.Core.Bool.{Bool, true, false}
+use mathlib.Core.Path.{_≡_, refl, sym, ap, _∙_}
+use mathlib.Core.Bool.{Bool, true, false, _||_, cond}
 use mathlib.Core.List.{List}
 use borrow.Author.Tests.{le-leb, lt-leb, eq-eqb, ne-eqb}
 use lib.ListN.{length}
+use lib.Dec.{eqb}
 use Rattle.words.specs.Word.{wordAt}
 use Rattle.frames.specs.Layout.{lengthAt, lengthSize, kindAt, headerSize, messageKind, configurationAt, contentAt, tokenKind, requestsAt, mostRequests, tokenSize}
 use Rattle.frames.specs.Message.{configuration, messageOf, contentOf, messageFollows}
 use Rattle.frames.specs.Token.{requestCount, tokenOf, tokenFollows}
-use Rattle.frames.specs.Read.{readOf, readMessage, readToken, refused, aMessage, aToken}
+use Rattle.frames.specs.Read.{answerNumber, refused, aMessage, aToken, lengthExact, messageReads, tokenReads, readMessage, readToken, readKind, readOf, readNumber}
+use Rattle.frames.specs.declared.reader.Reading.{Reading}
 use Rattle.frames.specs.declared.message.Message.{Message}
 use Rattle.frames.specs.declared.token.Token.{Token}
 use Rattle.frames.specs.declared.refusal.Refusal.the-variants.{WrongLength, OtherKind, Malformed}
@@ -84,3 +86,26 @@ module _ (s : List ℕ) where
     pub read-other : (wordAt 2 s kindAt ≡ messageKind → ⊥) → (wordAt 2 s kindAt ≡ tokenKind → ⊥) → refused OtherKind ≡ readOf s
     unfolding readOf
     read-other k l = simp (le-leb _ _ long, eq-eqb _ _ exact, ne-eqb _ _ k, ne-eqb _ _ l)
+
+-- ---- the number of the first question that is answered 'no'
+
+numbered-cond : (b : Bool) (x y : Reading) (m n : ℕ) → answerNumber (x .answer) ≡ m → answerNumber (y .answer) ≡ n → answerNumber ((cond b x y) .answer) ≡ cond b m n
+numbered-cond true x y m n e f = e
+numbered-cond false x y m n e f = f
+
+kind-numbered : (message token message-reads token-reads : Bool) (x y : Reading) → answerNumber (x .answer) ≡ cond message-reads 0 12 → answerNumber (y .answer) ≡ cond token-reads 0 12 → answerNumber ((cond message x (cond token y (refused OtherKind))) .answer) ≡ cond (message || token) (cond (cond message message-reads token-reads) 0 12) 11
+kind-numbered true token message-reads token-reads x y e f = e
+kind-numbered false true message-reads token-reads x y e f = f
+kind-numbered false false message-reads token-reads x y e f = refl
+
+read-numbered : (s : List ℕ) → answerNumber (readOf s .answer) ≡ readNumber s
+unfolding readOf readNumber readMessage readToken
+read-numbered s =
+    let kind = wordAt 2 s kindAt in
+    let message = numbered-cond (messageReads s) (aMessage (messageOf s)) (refused Malformed) 0 12 refl refl in
+    let token = numbered-cond (tokenReads s) (aToken (tokenOf s)) (refused Malformed) 0 12 refl refl in
+    numbered-cond (lengthExact s) (readKind kind s) (refused WrongLength) _ 10 (kind-numbered (eqb kind messageKind) (eqb kind tokenKind) (messageReads s) (tokenReads s) (readMessage s) (readToken s) message token) refl
+
+-- so what reads as the definition says answers its number
+pub read-as : (s : List ℕ) (r : Reading) → r ≡ readOf s → (r ≡ readOf s) × (answerNumber (r .answer) ≡ readNumber s)
+read-as s r e = (e, rw e (read-numbered s))

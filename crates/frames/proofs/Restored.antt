@@ -13,7 +13,7 @@ use Rattle.words.specs.Run.{words, wordsBytes}
 use Rattle.words.proofs.WordLaws.{word-back}
 use Rattle.words.proofs.RunLaws.{words-back}
 use Rattle.words.proofs.ScanLaws.{within-most, zeros-are}
-use Rattle.frames.specs.Number.{mostNumber}
+use Rattle.frames.specs.Number.{mostNumber, mostId}
 use Rattle.frames.specs.Layout.{lengthAt, lengthSize, kindAt, headerSize, configurationAt, messageKind, messageSize, mostRequests, tokenKind, tokenSize}
 use Rattle.frames.specs.Header.{headerOf, headerFollows, headerBytes}
 use Rattle.frames.specs.Message.{configuration, messageOf, contentOf, messageFixed, messageBytes}
@@ -86,7 +86,7 @@ blocker-back : (b : Blocker) (aru highest : ℕ) → blockerFollows b aru highes
 blocker-back Nobody aru highest e = (omega arith, refl)
 blocker-back (Member id) aru highest e =
     let low : 1 ≤ id = leb-true 1 id (part e (λ (f : leb 1 id ≡ false). simp (f, and-false))) in
-    let high : id ≤ 65535 = leb-true id 65535 (part e (λ (f : leb id 65535 ≡ false). simp (f, and-false))) in
+    let high : id ≤ mostId = leb-true id mostId (part e (λ (f : leb id mostId ≡ false). simp (f, and-false))) in
     let some : id ≡ 0 → ⊥ = omega arith in
     (omega arith, rw (ne-eqb id 0 some))
 

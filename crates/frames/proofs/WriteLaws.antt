@@ -1,6 +1,6 @@
 -- The writers' definition at each way out of their code.
 use Prim.Native.Nat.{ℕ, _*_, _<_, _≤_}
-use mathlib.Core.Path.{_≡_, refl, _∙_}
+use mathlib.Core.Path.{_≡_, refl, sym, ap, _∙_}
 use mathlib.Core.Bool.{Bool, true, false}
 use mathlib.Core.List.{List}
 use borrow.Author.Tests.{le-leb, lt-leb}
@@ -12,27 +12,36 @@ use Rattle.words.proofs.RunLaws.{length-words-bytes}
 use Rattle.frames.specs.Layout.{contentAt, messageSize, requestsAt, tokenSize}
 use Rattle.frames.specs.Message.{messageFollows, messageFixed, messageBytes}
 use Rattle.frames.specs.Token.{tokenFollows, tokenFixed, tokenBytes}
-use Rattle.frames.specs.Write.{written, messageWritten, tokenWritten}
+use Rattle.frames.specs.Write.{Outcome, outcomeOf, written, messageWritten, tokenWritten}
 use Rattle.frames.specs.declared.refusal.Refusal.the-variants.{NoRoom, Malformed}
+use Rattle.frames.specs.declared.writer.Written.{Written}
 use Rattle.frames.specs.declared.writer.Written.the-variants.{Size, Refused}
 use Rattle.frames.specs.declared.message.Message.{Message}
 use Rattle.frames.specs.declared.token.Token.{Token}
+use Rattle.frames.proofs.RefusalLaws.{some-number, number-fixes}
 use Rattle.frames.proofs.Sizes.{message-fixed-length, token-fixed-length}
 
 module _ (follows : Bool) (frame out : List ℕ) where
-  pub write-malformed : follows ≡ false → (Refused Malformed ≡ (written follows frame out) .answer) × (out ≡ (written follows frame out) .out)
+  pub write-malformed : follows ≡ false → (outcomeOf (Refused Malformed) ≡ (written follows frame out) .outcome) × (out ≡ (written follows frame out) .out)
   unfolding written
   write-malformed bad = (rw bad, rw bad)
 
-  pub write-roomless : (n : ℕ) → follows ≡ true → length frame ≡ n → length out < n → (Refused NoRoom ≡ (written follows frame out) .answer) × (out ≡ (written follows frame out) .out)
+  pub write-roomless : (n : ℕ) → follows ≡ true → length frame ≡ n → length out < n → (outcomeOf (Refused NoRoom) ≡ (written follows frame out) .outcome) × (out ≡ (written follows frame out) .out)
   unfolding written
   write-roomless n ok size less = let short = lt-leb n (length out) less in (rw (ok, size, short), rw (ok, size, short))
 
-  pub write-taken : (n : ℕ) (out′ : List ℕ) → follows ≡ true → Stored out 0 frame n out′ → n ≤ length out → (Size n ≡ (written follows frame out) .answer) × (out′ ≡ (written follows frame out) .out)
+  pub write-taken : (n : ℕ) (out′ : List ℕ) → follows ≡ true → Stored out 0 frame n out′ → n ≤ length out → (outcomeOf (Size n) ≡ (written follows frame out) .outcome) × (out′ ≡ (written follows frame out) .out)
   unfolding written
   write-taken n out′ ok stored room =
       let fits = le-leb n (length out) room in
       (rw (ok, stored .size, fits), rw (ok, stored .size, fits) (stored .is ∙ front-stored n frame out (stored .size) room))
+
+-- the outcome fixes the answer
+pub outcome-fixes : (a b : Written) → outcomeOf a ≡ outcomeOf b → a ≡ b
+outcome-fixes (Size m) (Size n) e = ap Size (ap (λ (o : Outcome). o .count) e)
+outcome-fixes (Size m) (Refused why) e = absurd (some-number why (sym (ap (λ (o : Outcome). o .number) e)))
+outcome-fixes (Refused why) (Size n) e = absurd (some-number why (ap (λ (o : Outcome). o .number) e))
+outcome-fixes (Refused why) (Refused other) e = ap Refused (number-fixes why other (ap (λ (o : Outcome). o .number) e))
 
 -- the fixed part and then the rest, stored at the front
 
@@ -41,7 +50,7 @@ pub message-taken : (m : Message) (content out l₁ l₂ : List ℕ)
     → messageSize (length content) ≤ length out
     → l₁ ≡ sets out 0 (messageFixed m (messageSize (length content)))
     → l₂ ≡ sets l₁ contentAt content
-    → (Size (messageSize (length content)) ≡ (messageWritten m content out) .answer) × (l₂ ≡ (messageWritten m content out) .out)
+    → (outcomeOf (Size (messageSize (length content))) ≡ (messageWritten m content out) .outcome) × (l₂ ≡ (messageWritten m content out) .out)
 message-taken m content out l₁ l₂ ok room e₁ e₂ =
     let size = messageSize (length content) in
     let w₁ = stored-next contentAt (messageFixed m size) l₁ (stored-none out 0) (message-fixed-length m size) e₁ in
@@ -55,7 +64,7 @@ pub token-taken : (t : Token) (size : ℕ) (out l₁ l₂ : List ℕ)
     → t .count ≤ length (t .requests)
     → l₁ ≡ sets out 0 (tokenFixed t)
     → l₂ ≡ sets l₁ requestsAt (wordsBytes 4 (take (t .count) (t .requests)))
-    → (Size size ≡ (tokenWritten t out) .answer) × (l₂ ≡ (tokenWritten t out) .out)
+    → (outcomeOf (Size size) ≡ (tokenWritten t out) .outcome) × (l₂ ≡ (tokenWritten t out) .out)
 token-taken t size out l₁ l₂ ok sized room few e₁ e₂ =
     let requests = take (t .count) (t .requests) in
     let long : length (wordsBytes 4 requests) ≡ 4 * t .count = rw (length-words-bytes, length-take-le (t .count) (t .requests) few) in

@@ -10,6 +10,10 @@ lengthAt = 0
 abbrev pub lengthSize : ℕ
 lengthSize = 2
 
+-- a length field of two bytes gives a frame at most this size
+abbrev pub mostFramed : ℕ
+mostFramed = 65537
+
 abbrev pub kindAt : ℕ
 kindAt = 2
 
@@ -41,6 +45,10 @@ serviceAt = 20
 
 abbrev pub contentAt : ℕ
 contentAt = 22
+
+-- service 0 is agreed, 1 is safe
+abbrev pub mostService : ℕ
+mostService = 1
 
 abbrev pub mostContent : ℕ
 mostContent = 64

@@ -6,7 +6,7 @@ use lib.ListN.{length, drop}
 use lib.Dec.{leb}
 use Rattle.words.specs.Word.{wordAt, wordBytes}
 use Rattle.frames.specs.Number.{isNumber, isId}
-use Rattle.frames.specs.Layout.{senderAt, messageNumberAt, serviceAt, contentAt, messageKind, mostContent, messageSize}
+use Rattle.frames.specs.Layout.{senderAt, messageNumberAt, serviceAt, contentAt, messageKind, mostService, mostContent, messageSize}
 use Rattle.frames.specs.Header.{headerOf, headerFollows, headerBytes}
 use Rattle.frames.specs.declared.message.Message.{Message}
 
@@ -34,7 +34,7 @@ messageFollows m content =
     headerFollows (m .header)
     && isId (m .sender)
     && isNumber (m .number .0)
-    && leb (m .service) 1
+    && leb (m .service) mostService
     && leb (length content) mostContent
 
 -- the bytes before the content, of a frame of `size` bytes in all

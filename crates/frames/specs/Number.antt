@@ -10,6 +10,9 @@ mostNumber = 2000000000
 abbrev pub isNumber : ℕ → Bool
 isNumber n = leb 1 n && leb n mostNumber
 
+abbrev pub mostId : ℕ
+mostId = 65535
+
 -- a member's id
 abbrev pub isId : ℕ → Bool
-isId n = leb 1 n && leb n 65535
+isId n = leb 1 n && leb n mostId

@@ -1,6 +1,6 @@
 -- Reading a frame: any list of bytes gives values, or the first of questions 10 to 12 that fails. [document 01, Questions at the door]
 use Prim.Native.Nat.{ℕ}
-use mathlib.Core.Bool.{Bool, _&&_, cond}
+use mathlib.Core.Bool.{Bool, _&&_, _||_, cond}
 use mathlib.Core.List.{List}
 use lib.ListN.{length, replicate}
 use lib.Dec.{leb, eqb}
@@ -84,5 +84,25 @@ readKind kind s =
     (cond (eqb kind tokenKind) (readToken s)
     (refused OtherKind))
 
+-- the values, or the first question that is answered 'no'
 unfoldable pub readOf : List ℕ → Reading
 readOf s = cond (lengthExact s) (readKind (wordAt 2 s kindAt) s) (refused WrongLength)
+
+-- ---- the same in document 01's numbers: the first question that is answered 'no', or 0
+
+-- 11. Is the kind 1 or 2?
+abbrev pub kindKnown : ℕ → Bool
+kindKnown kind = eqb kind messageKind || eqb kind tokenKind
+
+-- 12. Does all else follow the layout?
+abbrev pub layoutFollows : ℕ → List ℕ → Bool
+layoutFollows kind s = cond (eqb kind messageKind) (messageReads s) (tokenReads s)
+
+unfoldable pub readNumber : List ℕ → ℕ
+readNumber s =
+    cond (lengthExact s)
+    (cond (kindKnown (wordAt 2 s kindAt))
+    (cond (layoutFollows (wordAt 2 s kindAt) s) 0
+    12)
+    11)
+    10

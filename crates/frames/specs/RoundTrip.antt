@@ -1,4 +1,4 @@
--- Frames round-trip both ways: the four statements, for every value and every list of bytes. proofs/RoundTrip.antt proves each.
+-- Frames round-trip both ways: the four statements, for every value and every list of bytes. proofs/Restored.antt and proofs/Rewritten.antt prove them.
 use Prim.Native.Nat.{ℕ}
 use mathlib.Core.Path.{_≡_}
 use mathlib.Core.Bool.{true}

@@ -7,20 +7,23 @@ use lib.Dec.{leb}
 use Rattle.frames.specs.Refusal.{refusalNumber}
 use Rattle.frames.specs.Message.{messageFollows, messageBytes}
 use Rattle.frames.specs.Token.{tokenFollows, tokenBytes}
-use Rattle.frames.specs.declared.refusal.Refusal.the-variants.{NoRoom, Malformed}
 use Rattle.frames.specs.declared.writer.Written.{Written}
 use Rattle.frames.specs.declared.writer.Written.the-variants.{Size, Refused}
 use Rattle.frames.specs.declared.message.Message.{Message}
 use Rattle.frames.specs.declared.token.Token.{Token}
 
--- the number that document 01 gives to an answer: 0 where nothing is refused
-abbrev pub writtenNumber : Written → ℕ
-writtenNumber (Size n) = 0
-writtenNumber (Refused why) = refusalNumber why
+-- an answer in document 01's terms: the question that is answered 'no', or 0, and how many bytes were written
+pub record Outcome : Type 0 where
+  pub number : ℕ
+  pub count : ℕ
 
--- the answer, and the whole buffer afterwards
+abbrev pub outcomeOf : Written → Outcome
+outcomeOf (Size n) = record { number = 0; count = n }
+outcomeOf (Refused why) = record { number = refusalNumber why; count = 0 }
+
+-- the outcome, and the whole buffer afterwards
 pub record Writing : Type 0 where
-  pub answer : Written
+  pub outcome : Outcome
   pub out : List ℕ
 
 -- the frame's bytes, followed by what stood after them; a refusal leaves every byte as it was
@@ -28,9 +31,9 @@ unfoldable pub written : Bool → List ℕ → List ℕ → Writing
 written follows frame out =
     cond follows
     (cond (leb (length frame) (length out))
-    (record { answer = Size (length frame); out = frame ++ drop (length frame) out })
-    (record { answer = Refused NoRoom; out = out }))
-    (record { answer = Refused Malformed; out = out })
+    (record { outcome = record { number = 0; count = length frame }; out = frame ++ drop (length frame) out })
+    (record { outcome = record { number = 1; count = 0 }; out = out }))
+    (record { outcome = record { number = 12; count = 0 }; out = out })
 
 abbrev pub messageWritten : Message → List ℕ → List ℕ → Writing
 messageWritten m content out = written (messageFollows m content) (messageBytes m content) out

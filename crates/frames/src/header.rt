@@ -4,7 +4,7 @@ ghost use Prim.Native.Nat.{_≤_, _<_};
 ghost use lib.ListN.{length};
 ghost use lib.Seq.{sets};
 ghost use Rattle.frames.specs.Header.{framedSize, headerOf, headerFollows, headerBytes};
-ghost use Rattle.frames.specs.Layout.{lengthSize, headerSize};
+ghost use Rattle.frames.specs.Layout.{lengthSize, mostFramed, headerSize};
 use crate::layout;
 use crate::number;
 use crate::number::RingNumber;
@@ -19,6 +19,7 @@ pub struct Header {
 // byte.
 pub fn framed_size(stream: &[u8]) -> usize
     ensures { λ r. ⌜ r ≡ framedSize (now (stream .entry)) ⌝ }
+    ensures { λ r. ⌜ r ≤ mostFramed ⌝ }
 {
     if stream.len() < layout::LENGTH_SIZE {
         return 0;

@@ -28,6 +28,10 @@ pub const SERVICE_AT: usize = 20;
 
 pub const CONTENT_AT: usize = 22;
 
+pub const CONFIGURATION: u32 = 0;
+
+pub const MOST_SERVICE: u16 = 1;
+
 pub const MOST_CONTENT: usize = 64;
 
 // Kind 2, token.
@@ -51,7 +55,7 @@ pub const REQUESTS_AT: usize = 30;
 
 pub const MOST_ROUND: u16 = 128;
 
-pub const MOST_REQUESTS: u16 = 16;
+pub const MOST_REQUESTS: usize = 16;
 
 // The size of a token with n requests.
 pub fn token_size(n: u16) -> usize

@@ -31,7 +31,7 @@ pub fn message_of(frame: &[u8]) -> Message
 }
 
 // The content of a message frame: the part of its bytes from the content's place to the end, and
-// nothing of a frame that has no such place. Ruled out: a copy; a part that starts a byte late.
+// nothing of a frame that has no such place. Ruled out: a part that starts a byte late; a short frame's own bytes.
 pub fn content(frame: &[u8]) -> &[u8]
     ensures { λ r. ⌜ now r ≡ contentOf (now (frame .entry)) ⌝ }
 {
@@ -48,6 +48,6 @@ pub fn message_follows(m: Message, content: &[u8]) -> bool
     header::header_follows(m.header)
         & number::is_id(m.sender)
         & number::is_number(m.number.0)
-        & (m.service <= 1)
+        & (m.service <= layout::MOST_SERVICE)
         & (content.len() <= layout::MOST_CONTENT)
 }

@@ -10,6 +10,8 @@ pub struct TokenNumber(pub u32);
 
 pub const MOST_NUMBER: u32 = 2000000000;
 
+const MOST_ID: u16 = 65535;
+
 pub fn is_number(n: u32) -> bool
     ensures { λ r. ⌜ r ≡ isNumber n ⌝ }
 {
@@ -19,5 +21,5 @@ pub fn is_number(n: u32) -> bool
 pub fn is_id(id: u16) -> bool
     ensures { λ r. ⌜ r ≡ isId id ⌝ }
 {
-    (1 <= id) & (id <= 65535)
+    (1 <= id) & (id <= MOST_ID)
 }

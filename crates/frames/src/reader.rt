@@ -1,6 +1,6 @@
 // The reader.
 ghost use mathlib.Core.Path.{_≡_};
-ghost use Rattle.frames.specs.Read.{readOf, readMessage, readToken, blankToken, refused};
+ghost use Rattle.frames.specs.Read.{readOf, readNumber, readMessage, readToken, blankToken, refused, answerNumber};
 use crate::header::Header;
 use crate::layout;
 use crate::message;
@@ -42,7 +42,7 @@ fn blank_token() -> Token
         blocker: Blocker::Nobody,
         round: 0,
         count: 0,
-        requests: [0u32; 16],
+        requests: [0u32; layout::MOST_REQUESTS],
     }
 }
 
@@ -61,7 +61,7 @@ fn read_message(frame: &[u8]) -> Reading
     if frame.len() < layout::CONTENT_AT {
         return refuse(Refusal::Malformed);
     }
-    if words::get_u32(frame, layout::CONFIGURATION_AT) != 0 {
+    if words::get_u32(frame, layout::CONFIGURATION_AT) != layout::CONFIGURATION {
         return refuse(Refusal::Malformed);
     }
     let m = message::message_of(frame);
@@ -81,7 +81,7 @@ fn read_token(frame: &[u8]) -> Reading
         return refuse(Refusal::Malformed);
     }
     let n = words::get_u16(frame, layout::COUNT_AT);
-    if layout::MOST_REQUESTS < n {
+    if layout::MOST_REQUESTS < n as usize {
         return refuse(Refusal::Malformed);
     }
     if frame.len() != layout::token_size(n) {
@@ -101,6 +101,7 @@ fn read_token(frame: &[u8]) -> Reading
 // token taken for a message; 12 where the length is wrong already.
 pub fn read(frame: &[u8]) -> Reading
     ensures { λ r. ⌜ r ≡ readOf (now (frame .entry)) ⌝ }
+    ensures { λ r. ⌜ answerNumber (r .answer) ≡ readNumber (now (frame .entry)) ⌝ }
 {
     if frame.len() < layout::HEADER_SIZE {
         return refuse(Refusal::WrongLength);

@@ -30,7 +30,7 @@ pub struct Token {
     pub round: u16,
     // The requests are the first `count` places; the others are 0. The paper's rtr.
     pub count: u16,
-    pub requests: [u32; 16],
+    pub requests: [u32; layout::MOST_REQUESTS],
 }
 
 pub fn blocker_of(id: u16) -> Blocker
@@ -61,11 +61,11 @@ fn blocker_follows(b: Blocker, aru: u32, highest: u32) -> bool
     }
 }
 
-fn requests_of(frame: &[u8], n: u16) -> [u32; 16]
+fn requests_of(frame: &[u8], n: u16) -> [u32; layout::MOST_REQUESTS]
     requires { ⌜ (n ≤ mostRequests) × (tokenSize n ≤ length (now frame)) ⌝ }
     ensures { λ r. ⌜ r ≡ requestsOf n (now (frame .entry)) ⌝ }
 {
-    let mut requests = [0u32; 16];
+    let mut requests = [0u32; layout::MOST_REQUESTS];
     words::get_u32s(frame, layout::REQUESTS_AT, n as usize, &mut requests);
     requests
 }
@@ -74,10 +74,10 @@ fn requests_follow(count: u16, requests: &[u32], highest: u32) -> bool
     requires { ⌜ length (now requests) ≡ mostRequests ⌝ }
     ensures { λ r. ⌜ r ≡ requestsFollow count (now (requests .entry)) highest ⌝ }
 {
-    if layout::MOST_REQUESTS < count {
+    let n = count as usize;
+    if layout::MOST_REQUESTS < n {
         return false;
     }
-    let n = count as usize;
     words::all_within_u32(&requests[..n], 1, highest)
         & words::distinct_u32(&requests[..n])
         & words::all_zero_u32(&requests[n..])

@@ -6,7 +6,7 @@ ghost use lib.Seq.{sets};
 ghost use Rattle.frames.specs.Layout.{contentAt, requestsAt, mostRequests};
 ghost use Rattle.frames.specs.Message.{messageFixed};
 ghost use Rattle.frames.specs.Token.{tokenFixed};
-ghost use Rattle.frames.specs.Write.{messageWritten, tokenWritten};
+ghost use Rattle.frames.specs.Write.{outcomeOf, messageWritten, tokenWritten};
 use crate::header;
 use crate::layout;
 use crate::message;
@@ -29,14 +29,14 @@ fn put_message_fixed(out: &mut [u8], m: Message, size: usize)
     header::put_header(out, size, layout::MESSAGE_KIND, m.header);
     words::put_u16(out, layout::SENDER_AT, m.sender);
     words::put_u32(out, layout::MESSAGE_NUMBER_AT, m.number.0);
-    words::put_u32(out, layout::CONFIGURATION_AT, 0);
+    words::put_u32(out, layout::CONFIGURATION_AT, layout::CONFIGURATION);
     words::put_u16(out, layout::SERVICE_AT, m.service);
 }
 
 // Writes a message frame to the front of `out`. Ruled out: a byte past the frame changed; a buffer
 // one byte short taken.
 pub fn write_message(m: Message, content: &[u8], out: &mut [u8]) -> Written
-    ensures { λ r. ⌜ r ≡ (messageWritten m (now (content .entry)) (now (out .entry))) .answer ⌝ }
+    ensures { λ r. ⌜ outcomeOf r ≡ (messageWritten m (now (content .entry)) (now (out .entry))) .outcome ⌝ }
     ensures { λ _. ⌜ now (out .exit) ≡ (messageWritten m (now (content .entry)) (now (out .entry))) .out ⌝ }
 {
     if !message::message_follows(m, content) {
@@ -75,7 +75,7 @@ fn put_token_fixed(out: &mut [u8], t: Token)
 // Writes a token frame to the front of `out`. Ruled out: requests left out; a refusal that has
 // written the header already.
 pub fn write_token(t: Token, out: &mut [u8]) -> Written
-    ensures { λ r. ⌜ r ≡ (tokenWritten t (now (out .entry))) .answer ⌝ }
+    ensures { λ r. ⌜ outcomeOf r ≡ (tokenWritten t (now (out .entry))) .outcome ⌝ }
     ensures { λ _. ⌜ now (out .exit) ≡ (tokenWritten t (now (out .entry))) .out ⌝ }
 {
     let requests = t.requests;

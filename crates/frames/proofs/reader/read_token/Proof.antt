@@ -22,4 +22,4 @@ returns-5 : tie.Need-returns-5
 returns-5 c = token-right (c .before .before .before .before .before .before .before .before .before .args .frame .now) _ _ (omega arith) (omega arith) (omega arith) (c .before .before .token-of .ensures) (c .before .token-follows .ensures) (not-false _ (c .if4 .left))
 
 pub read-token-spec : {M : Type 1} → statement M
-read-token-spec = tie.close (tie.spec (λ c κs. search needs) returns (λ c κs. search needs) (λ c κs. search needs) returns-2 (λ c κs. search needs) (λ c κs. search needs) returns-3 (λ c κs. search needs) (λ c κs. search needs) (λ c κs. search needs) returns-4 returns-5)
+read-token-spec = tie.close (tie.spec (λ c κs. search needs) returns (λ c κs. search needs) (λ c. search needs) (λ c κs. search needs) returns-2 (λ c κs. search needs) (λ c κs. search needs) returns-3 (λ c κs. search needs) (λ c κs. search needs) (λ c κs. search needs) returns-4 returns-5)

@@ -2,7 +2,7 @@ use mathlib.Core.Path.{sym}
 use native.Mathlib.Omega.{arith}
 use borrow.Author.Needs.{needs}
 use lib.Seq.{length-take-le}
-use Rattle.frames.proofs.RequestLaws.{requests-many, requests-tested}
+use Rattle.frames.proofs.TokenLaws.{requests-many, requests-tested}
 use Rattle.frames.proofs.token.requests_follow.Statement.{statement}
 use Rattle.frames.proofs.token.requests_follow.Tie as tie
 

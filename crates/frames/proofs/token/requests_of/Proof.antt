@@ -1,5 +1,5 @@
 use borrow.Author.Needs.{needs}
-use Rattle.frames.proofs.RequestLaws.{requests-padded}
+use Rattle.frames.proofs.TokenLaws.{requests-padded}
 use Rattle.frames.proofs.token.requests_of.Statement.{statement}
 use Rattle.frames.proofs.token.requests_of.Tie as tie
 

@@ -1,0 +1,142 @@
+-- Document 01's frames and their borders, as one table. proofs/Trials.antt computes it from the definitions.
+use Prim.Native.Nat.{ℕ, zero, suc, _-_}
+use mathlib.Core.Bool.{Bool, true, false, _&&_}
+use mathlib.Core.List.{List, [], _∷_, _++_}
+use lib.ListN.{length, take, replicate}
+use lib.Dec.{eqb}
+use Rattle.frames.specs.Layout.{mostRequests}
+use Rattle.frames.specs.Message.{messageBytes}
+use Rattle.frames.specs.Token.{tokenBytes}
+use Rattle.frames.specs.Read.{answerNumber, readOf}
+use Rattle.frames.specs.Write.{Writing, messageWritten, tokenWritten}
+use Rattle.frames.specs.declared.header.Header.{Header}
+use Rattle.frames.specs.declared.message.Message.{Message}
+use Rattle.frames.specs.declared.token.Token.{Token}
+use Rattle.frames.specs.declared.token.Blocker.{Blocker}
+use Rattle.frames.specs.declared.token.Blocker.the-variants.{Nobody, Member}
+
+-- ---- what a row says; a number is that of the question answered 'no', 0 for none
+
+pub data Trial : Type 0 where
+  -- reading the frame of these values and writing them answer this number; this many bytes are written
+  message : Message → List ℕ → ℕ → ℕ → Trial
+  token : Token → ℕ → ℕ → Trial
+  -- writing answers this number
+  writes : Writing → ℕ → Trial
+  -- reading these bytes answers this number
+  reads : List ℕ → ℕ → Trial
+  -- these bytes are those
+  are : List ℕ → List ℕ → Trial
+
+abbrev pub readsAs : List ℕ → ℕ → Bool
+readsAs frame number = eqb (answerNumber (readOf frame .answer)) number
+
+abbrev pub writesAs : Writing → ℕ → ℕ → Bool
+writesAs w number count = eqb (w .outcome .number) number && eqb (w .outcome .count) count
+
+abbrev pub same : List ℕ → List ℕ → Bool
+same [] [] = true
+same [] (y ∷ ys) = false
+same (x ∷ xs) [] = false
+same (x ∷ xs) (y ∷ ys) = eqb x y && same xs ys
+
+-- a buffer with room for any frame
+abbrev pub room : List ℕ
+room = replicate 100 255
+
+abbrev pub passes : Trial → Bool
+passes (message m content number count) = readsAs (messageBytes m content) number && writesAs (messageWritten m content room) number count
+passes (token t number count) = readsAs (tokenBytes t) number && writesAs (tokenWritten t room) number count
+passes (writes w number) = writesAs w number 0
+passes (reads frame number) = readsAs frame number
+passes (are frame bytes) = same frame bytes
+
+abbrev pub allPass : List Trial → Bool
+allPass [] = true
+allPass (t ∷ ts) = passes t && allPass ts
+
+-- ---- messages and tokens of members 3 and 7
+
+abbrev pub header : ℕ → Header
+header ring = record { ring = record { 0 = ring }; representative = 3 }
+
+-- a message of ring 4: number, service
+abbrev pub aMessage : ℕ → ℕ → Message
+aMessage n service = record { header = header 4; sender = 7; number = record { 0 = n }; service = service }
+
+-- a token to 3: ring number, token number, highest, aru, blocker, round count, and a count of requests with its places
+abbrev pub tokenWith : ℕ → ℕ → ℕ → ℕ → Blocker → ℕ → ℕ → List ℕ → Token
+tokenWith ring n highest aru blocker round count requests =
+    record {
+      header = header ring;
+      addressee = 3;
+      number = record { 0 = n };
+      highest = record { 0 = highest };
+      aru = record { 0 = aru };
+      blocker = blocker;
+      round = round;
+      count = count;
+      requests = requests ++ replicate (mostRequests - length requests) 0;
+    }
+
+-- a token of ring 4 and number 1 with these requests: highest, aru, blocker, round count, requests
+abbrev pub aToken : ℕ → ℕ → Blocker → ℕ → List ℕ → Token
+aToken highest aru blocker round requests = tokenWith 4 1 highest aru blocker round (length requests) requests
+
+abbrev pub from1to : ℕ → List ℕ
+from1to zero = []
+from1to (suc n) = from1to n ++ (suc n ∷ [])
+
+-- the first token of ring 4 with members 3 and 7, in hexadecimal as document 01 has it
+unfoldable pub firstToken : List ℕ
+firstToken =
+    0x1C ∷ 0x00 ∷ 0x02 ∷ 0x00 ∷ 0x04 ∷ 0x00 ∷ 0x00 ∷ 0x00 ∷ 0x03 ∷ 0x00 ∷ 0x03 ∷ 0x00 ∷ 0x01 ∷ 0x00 ∷ 0x00 ∷ 0x00 ∷ replicate 14 0x00
+
+-- ---- the table
+
+unfoldable pub table : List Trial
+table =
+    are (tokenBytes (aToken 0 0 Nobody 0 [])) firstToken
+    -- messages
+    ∷ message (aMessage 1 0) [] 0 22  -- no content
+    ∷ message (aMessage 1 1) (replicate 64 111) 0 86  -- 64 bytes
+    ∷ message (aMessage 1 0) (replicate 65 111) 12 0  -- 65
+    ∷ message (aMessage 1 2) [] 12 0  -- service 2
+    ∷ message (aMessage 0 0) [] 12 0  -- number 0
+    ∷ message (aMessage 2000000000 0) [] 0 22  -- the largest number
+    ∷ message (aMessage 2000000001 0) [] 12 0  -- one more
+    -- tokens
+    ∷ token (tokenWith 2000000000 1 0 0 Nobody 0 0 []) 0 30  -- ring number
+    ∷ token (tokenWith 2000000001 1 0 0 Nobody 0 0 []) 12 0
+    ∷ token (tokenWith 4 2000000000 0 0 Nobody 0 0 []) 0 30  -- token number
+    ∷ token (tokenWith 4 2000000001 0 0 Nobody 0 0 []) 12 0
+    ∷ token (aToken 2000000000 2000000000 Nobody 0 []) 0 30  -- highest
+    ∷ token (aToken 2000000001 2000000001 Nobody 0 []) 12 0
+    ∷ token (aToken 10 5 (Member 7) 0 []) 0 30
+    ∷ token (aToken 10 11 (Member 7) 0 []) 12 0  -- aru above the highest
+    ∷ token (aToken 10 10 (Member 7) 0 []) 12 0  -- a blocker with aru equal to the highest
+    ∷ token (aToken 10 9 Nobody 0 []) 12 0  -- nobody with aru below it
+    ∷ token (aToken 10 5 (Member 0) 0 []) 12 0  -- a blocker with id 0
+    ∷ token (aToken 10 5 (Member 7) 128 []) 0 30  -- round count 128
+    ∷ token (aToken 10 5 (Member 7) 129 []) 12 0  -- 129
+    ∷ token (aToken 20 0 (Member 7) 0 (from1to 16)) 0 94  -- 16 requests
+    ∷ reads (tokenBytes (aToken 20 0 (Member 7) 0 (from1to 17))) 12  -- 17 in a frame
+    ∷ writes (tokenWritten (tokenWith 4 1 20 0 (Member 7) 0 17 (from1to 16)) room) 12  -- 17 counted in 16 places
+    ∷ writes (tokenWritten (tokenWith 4 1 20 0 (Member 7) 0 1 (6 ∷ 8 ∷ [])) room) 12  -- a place that is not counted and not zero
+    ∷ token (aToken 10 5 (Member 7) 0 (6 ∷ 8 ∷ 6 ∷ [])) 12 0  -- a request twice
+    ∷ token (aToken 10 5 (Member 7) 0 (6 ∷ 10 ∷ [])) 0 38
+    ∷ token (aToken 10 5 (Member 7) 0 (6 ∷ 11 ∷ [])) 12 0  -- a request above the highest
+    ∷ token (aToken 10 5 (Member 7) 0 (0 ∷ [])) 12 0  -- a request 0
+    -- the buffer
+    ∷ writes (tokenWritten (aToken 0 0 Nobody 0 []) (replicate 29 0)) 1  -- one byte short
+    ∷ writes (tokenWritten (aToken 0 1 Nobody 0 []) []) 12  -- 12 goes before 1
+    -- any bytes
+    ∷ reads firstToken 0
+    ∷ reads [] 10
+    ∷ reads (0x07 ∷ replicate 8 0x00) 10  -- under 10 bytes, though its length is exact
+    ∷ reads (take 29 firstToken) 10  -- a byte short
+    ∷ reads (firstToken ++ (0x00 ∷ [])) 10  -- a byte too many
+    ∷ reads (0x08 ∷ 0x00 ∷ 0x00 ∷ replicate 7 0x00) 11  -- kind 0
+    ∷ reads (0x08 ∷ 0x00 ∷ 0x03 ∷ replicate 7 0x00) 11  -- kind 3
+    ∷ reads (0x08 ∷ 0x00 ∷ 0x01 ∷ replicate 7 0x00) 12  -- a message of 10 bytes
+    ∷ []
