@@ -1,4 +1,4 @@
-pub mod ShiftLaws
+pub mod InputLaws
 pub mod PutLaws
 pub mod TextLaws
 pub mod Longest

@@ -24,7 +24,11 @@ listed-none [] out at e h = put-nothing out at h
 listed-none (x ∷ xs) out at e h = absurd (omega arith)
 
 module _ {out : List ℕ} {at after : ℕ} {out′ : List ℕ} where
-  pub listed-some : (xs : List ℕ) {at₁ : ℕ} {out₁ : List ℕ} → (length xs ≡ 0 → ⊥) → Put out at (decimal (getD xs 0 0)) at₁ out₁ → Put out₁ at₁ (each following (take (length xs - 1) (drop 1 xs))) after out′ → Put out at (listed xs) after out′
+  pub listed-some : (xs : List ℕ) {at₁ : ℕ} {out₁ : List ℕ}
+      → (length xs ≡ 0 → ⊥)
+      → Put out at (decimal (getD xs 0 0)) at₁ out₁
+      → Put out₁ at₁ (each following (take (length xs - 1) (drop 1 xs))) after out′
+      → Put out at (listed xs) after out′
   listed-some [] n p q = absurd (n refl)
   listed-some (x ∷ xs) n p q = put-then p (rw (take-all (length (x ∷ xs) - 1) xs (omega arith)) at q)
 
@@ -35,11 +39,19 @@ module _ {out : List ℕ} {at after : ℕ} {out′ : List ℕ} where
   member-put b id e p = rw e p
 
   module _ (frame : List ℕ) (reading : Reading) (is : reading ≡ readOf frame) where
-    pub refused-put : (why : Refusal) (number : ℕ) → reading .answer ≡ Refused why → number ≡ refusalNumber why → Put out at (refusalLine number) after out′ → Put out at (lineOf frame) after out′
+    pub refused-put : (why : Refusal) (number : ℕ)
+        → reading .answer ≡ Refused why
+        → number ≡ refusalNumber why
+        → Put out at (refusalLine number) after out′
+        → Put out at (lineOf frame) after out′
     unfolding lineOf
     refused-put why number a e p = rw (← is, a) (rw e at p)
 
-    pub message-put : (m : Message) (content : List ℕ) → reading .answer ≡ IsMessage m → content ≡ contentOf frame → Put out at (messageLine m content) after out′ → Put out at (lineOf frame) after out′
+    pub message-put : (m : Message) (content : List ℕ)
+        → reading .answer ≡ IsMessage m
+        → content ≡ contentOf frame
+        → Put out at (messageLine m content) after out′
+        → Put out at (lineOf frame) after out′
     unfolding lineOf
     message-put m content a e p = rw (← is, a) (rw e at p)
 
@@ -48,7 +60,10 @@ module _ {out : List ℕ} {at after : ℕ} {out′ : List ℕ} where
     token-put a p = rw (← is, a) p
 
 -- where there is room for the longest line, the whole line is put
-pub line-whole : {out : List ℕ} {at after : ℕ} {out′ : List ℕ} (frame : List ℕ) → at + longestLine ≤ length out → Put out at (lineOf frame) after out′ → Whole out at (lineOf frame) after out′
+pub line-whole : {out : List ℕ} {at after : ℕ} {out′ : List ℕ} (frame : List ℕ)
+    → at + longestLine ≤ length out
+    → Put out at (lineOf frame) after out′
+    → Whole out at (lineOf frame) after out′
 line-whole frame room p =
     let short = line-short frame in
     let done = p .stored (omega arith) in

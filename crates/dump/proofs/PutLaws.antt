@@ -50,8 +50,15 @@ pub each-starts : (f : ℕ → List ℕ) (xs out : List ℕ) (at : ℕ) → at �
 unfolding each
 each-starts f xs out at h = put-nothing out at h
 
-pub each-goes : (f : ℕ → List ℕ) (xs : List ℕ) (i : ℕ) {out₀ : List ℕ} {at₀ at : ℕ} {out : List ℕ} {at′ : ℕ} {out′ : List ℕ} → i < length xs → Put out₀ at₀ (each f (take i xs)) at out → Put out at (f (getD xs i 0)) at′ out′ → Put out₀ at₀ (each f (take (i + 1) xs)) at′ out′
+pub each-goes : (f : ℕ → List ℕ) (xs : List ℕ) (i : ℕ) {out₀ : List ℕ} {at₀ at : ℕ} {out : List ℕ} {at′ : ℕ} {out′ : List ℕ}
+    → i < length xs
+    → Put out₀ at₀ (each f (take i xs)) at out
+    → Put out at (f (getD xs i 0)) at′ out′
+    → Put out₀ at₀ (each f (take (i + 1) xs)) at′ out′
 each-goes f xs i h p q = rw (add-one i, take-suc xs i 0 h, each-append, each-one) (put-then p q)
 
-pub each-ends : (f : ℕ → List ℕ) (xs : List ℕ) (i : ℕ) {out₀ : List ℕ} {at₀ at : ℕ} {out : List ℕ} → length xs ≤ i → Put out₀ at₀ (each f (take i xs)) at out → Put out₀ at₀ (each f xs) at out
+pub each-ends : (f : ℕ → List ℕ) (xs : List ℕ) (i : ℕ) {out₀ : List ℕ} {at₀ at : ℕ} {out : List ℕ}
+    → length xs ≤ i
+    → Put out₀ at₀ (each f (take i xs)) at out
+    → Put out₀ at₀ (each f xs) at out
 each-ends f xs i h p = rw (take-all i xs h) at p

@@ -1,4 +1,4 @@
--- The worked lines, computed from the definitions.
+-- The first lines of the stored capture and the shortest frame, computed from the definitions.
 use Prim.Native.Nat.{ℕ}
 use mathlib.Core.Path.{_≡_, refl}
 use mathlib.Core.List.{List, [], _∷_}

@@ -2,7 +2,7 @@
 use Prim.Native.Nat.{ℕ}
 use mathlib.Core.List.{List, [], _∷_, _++_}
 use lib.ListN.{take}
-use Rattle.frames.specs.Message.{contentOf}
+use Rattle.frames.specs.Message.{configuration, contentOf}
 use Rattle.frames.specs.Read.{readOf}
 use Rattle.frames.specs.Refusal.{refusalNumber}
 use Rattle.frames.specs.declared.header.Header.{Header}
@@ -27,7 +27,7 @@ messageFields m =
     headerText (ascii "message") (m .header)
     ++ field (ascii " sender_id=") (m .sender)
     ++ field (ascii " seq=") (m .number .0)
-    ++ field (ascii " conf_id=") 0
+    ++ field (ascii " conf_id=") configuration
     ++ field (ascii " service=") (m .service)
 
 unfoldable pub messageLine : Message → List ℕ → List ℕ

@@ -1,13 +1,15 @@
 // A buffer of input: frames one after another, the last perhaps not whole yet.
 ghost use mathlib.Core.Path.{_≡_};
-ghost use Prim.Native.Nat.{_-_, _≤_};
+ghost use Prim.Native.Nat.{_-_, _≤_, _<_};
 ghost use lib.ListN.{length, take, drop};
+ghost use Rattle.frames.specs.Layout.{mostFramed};
 ghost use Rattle.dump.specs.Input.{wholeSize};
 
 // How long the frame is that a stream begins with, or 0 while it has not come whole.
 pub fn whole_size(stream: &[u8]) -> usize
     ensures { λ r. ⌜ r ≡ wholeSize (now (stream .entry)) ⌝ }
     ensures { λ r. ⌜ r ≤ length (now (stream .entry)) ⌝ }
+    ensures { λ r. ⌜ (r ≡ 0 → length (now (stream .entry)) < mostFramed) ⌝ }
 {
     let size = frames::framed_size(stream);
     if size <= stream.len() { size } else { 0 }

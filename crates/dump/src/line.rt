@@ -102,7 +102,12 @@ fn first(numbers: &[u32], n: usize) -> &[u32]
     &numbers[0..n]
 }
 
-fn put_requests(out: &mut [u8], at: usize, requests: &[u32; 16], count: u16) -> usize
+fn put_requests(
+    out: &mut [u8],
+    at: usize,
+    requests: &[u32; frames::MOST_REQUESTS],
+    count: u16,
+) -> usize
     ensures { λ r. ⌜ Put (now (out .entry)) at (requestsText (now (requests .entry)) count) r (now (out .exit)) ⌝ }
 {
     let at = text::put_bytes(out, at, b" rtr=[");

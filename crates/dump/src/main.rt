@@ -4,8 +4,9 @@ mod input;
 mod line;
 mod text;
 
-ghost use Prim.Native.Nat.{_+_, _≤_};
+ghost use Prim.Native.Nat.{_+_, _≤_, _<_};
 ghost use lib.ListN.{length};
+ghost use Rattle.frames.specs.Layout.{mostFramed};
 ghost use Rattle.dump.specs.Line.{longestLine};
 use libc::STDIN_FILENO;
 use libc::STDOUT_FILENO;
@@ -43,10 +44,10 @@ fn make_room(out: &[u8], used: usize) -> Progress
     }
 }
 
-// Writes the line of each whole frame of `input`, up to the first that is not whole.
+// Writes the line of each whole frame of `input`. What is left is a part of one frame, or nothing.
 fn show_frames(input: &[u8], out: &mut [u8]) -> Progress
     requires { ⌜ longestLine ≤ length (now out) ⌝ }
-    ensures { λ r. ⌜ r .at ≤ length (now (input .entry)) ⌝ }
+    ensures { λ r. ⌜ (r .at ≤ length (now (input .entry))) × (length (now (input .entry)) < r .at + mostFramed) ⌝ }
 {
     let mut from = 0;
     let mut used = 0;
@@ -55,7 +56,7 @@ fn show_frames(input: &[u8], out: &mut [u8]) -> Progress
         let room = make_room(out, used);
         if !room.goes_on {
             return Progress {
-                at: from,
+                at: input.len(),
                 goes_on: false,
             };
         }
@@ -81,10 +82,11 @@ fn show_rest(rest: &[u8], out: &mut [u8])
 }
 
 // Reads once, after the first `held` bytes of `buffer`, a frame that is not whole, and writes the
-// lines of the frames that are whole then. Answers how many bytes are held for the next turn.
+// lines of the frames that are whole then. Answers how many bytes are held for the next turn. The
+// buffer has room for any frame, so there is always room to read, and nothing read is the end.
 fn take_turn(buffer: &mut [u8], held: usize, out: &mut [u8]) -> Progress
-    requires { ⌜ (held ≤ length (now buffer)) × (longestLine ≤ length (now out)) ⌝ }
-    ensures { λ r. ⌜ r .at ≤ length (now (buffer .entry)) ⌝ }
+    requires { ⌜ (held < mostFramed) × (mostFramed ≤ length (now buffer)) × (longestLine ≤ length (now out)) ⌝ }
+    ensures { λ r. ⌜ r .at < mostFramed ⌝ }
 {
     let got = libc::read(STDIN_FILENO, &mut buffer[held..]);
     if got < 0 {
@@ -110,7 +112,7 @@ fn take_turn(buffer: &mut [u8], held: usize, out: &mut [u8]) -> Progress
 // A proved loop has to end, and nothing says that the input does. So it counts its turns down, from
 // a number that no run uses up.
 fn show_all(buffer: &mut [u8], out: &mut [u8])
-    requires { ⌜ longestLine ≤ length (now out) ⌝ }
+    requires { ⌜ (mostFramed ≤ length (now buffer)) × (longestLine ≤ length (now out)) ⌝ }
 {
     let mut held = 0;
     let mut turns = u64::MAX;
@@ -124,8 +126,12 @@ fn show_all(buffer: &mut [u8], out: &mut [u8])
     }
 }
 
+const INPUT_ROOM: usize = 131072;
+
+const OUTPUT_ROOM: usize = 65536;
+
 fn main() {
-    let mut buffer = [0u8; 131072];
-    let mut out = [0u8; 65536];
+    let mut buffer = [0u8; INPUT_ROOM];
+    let mut out = [0u8; OUTPUT_ROOM];
     show_all(&mut buffer, &mut out);
 }

@@ -93,7 +93,10 @@ numbered-cond : (b : Bool) (x y : Reading) (m n : ℕ) → answerNumber (x .answ
 numbered-cond true x y m n e f = e
 numbered-cond false x y m n e f = f
 
-kind-numbered : (message token message-reads token-reads : Bool) (x y : Reading) → answerNumber (x .answer) ≡ cond message-reads 0 12 → answerNumber (y .answer) ≡ cond token-reads 0 12 → answerNumber ((cond message x (cond token y (refused OtherKind))) .answer) ≡ cond (message || token) (cond (cond message message-reads token-reads) 0 12) 11
+kind-numbered : (message token message-reads token-reads : Bool) (x y : Reading)
+    → answerNumber (x .answer) ≡ cond message-reads 0 12
+    → answerNumber (y .answer) ≡ cond token-reads 0 12
+    → answerNumber ((cond message x (cond token y (refused OtherKind))) .answer) ≡ cond (message || token) (cond (cond message message-reads token-reads) 0 12) 11
 kind-numbered true token message-reads token-reads x y e f = e
 kind-numbered false true message-reads token-reads x y e f = f
 kind-numbered false false message-reads token-reads x y e f = refl

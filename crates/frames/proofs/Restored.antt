@@ -30,7 +30,10 @@ use Rattle.frames.proofs.ReadLaws.{read-as-message, read-as-token, mess
 
 -- ---- the header, of any kind
 
-header-same : (h : Header) (ring representative : ℕ) → ring ≡ h .ring .0 → representative ≡ h .representative → record { ring = record { 0 = ring }; representative = representative } ≡ h
+header-same : (h : Header) (ring representative : ℕ)
+    → ring ≡ h .ring .0
+    → representative ≡ h .representative
+    → record { ring = record { 0 = ring }; representative = representative } ≡ h
 header-same h ring representative e f = rw (e, f)
 
 header-back : (size kind : ℕ) (h : Header) (rest : List ℕ) → headerFollows h ≡ true → headerOf (headerBytes size kind h ++ rest) ≡ h
@@ -41,7 +44,12 @@ header-back size kind h rest follows =
 
 -- ---- a message
 
-message-same : (m : Message) (header : Header) (sender number service : ℕ) → header ≡ m .header → sender ≡ m .sender → number ≡ m .number .0 → service ≡ m .service → record { header = header; sender = sender; number = record { 0 = number }; service = service } ≡ m
+message-same : (m : Message) (header : Header) (sender number service : ℕ)
+    → header ≡ m .header
+    → sender ≡ m .sender
+    → number ≡ m .number .0
+    → service ≡ m .service
+    → record { header = header; sender = sender; number = record { 0 = number }; service = service } ≡ m
 message-same m header sender number service e f g h = rw (e, f, g, h)
 
 module _ (m : Message) (content : List ℕ) (facts : MessageFacts m content) where
@@ -91,7 +99,10 @@ blocker-back (Member id) aru highest e =
     (omega arith, rw (ne-eqb id 0 some))
 
 -- the requests, read back from their bytes and padded with zeros
-requests-back : (n : ℕ) (requests : List ℕ) (highest : ℕ) → highest ≤ mostNumber → RequestFacts n requests highest → words 4 n (wordsBytes 4 (take n requests)) ++ replicate (mostRequests - n) 0 ≡ requests
+requests-back : (n : ℕ) (requests : List ℕ) (highest : ℕ)
+    → highest ≤ mostNumber
+    → RequestFacts n requests highest
+    → words 4 n (wordsBytes 4 (take n requests)) ++ replicate (mostRequests - n) 0 ≡ requests
 requests-back n requests highest most facts =
     let few : n ≤ length requests = omega (arith, facts .few, facts .places) in
     let size : length (take n requests) ≡ n = length-take-le n requests few in
@@ -101,7 +112,17 @@ requests-back n requests highest most facts =
     let zeros : drop n requests ≡ replicate (mostRequests - n) 0 = rw rest at (zeros-are (drop n requests) (facts .rest)) in
     rw (first, ← zeros) (take-append-drop n requests)
 
-token-same : (t : Token) (header : Header) (addressee number highest aru : ℕ) (blocker : Blocker) (round count : ℕ) (requests : List ℕ) → header ≡ t .header → addressee ≡ t .addressee → number ≡ t .number .0 → highest ≡ t .highest .0 → aru ≡ t .aru .0 → blocker ≡ t .blocker → round ≡ t .round → count ≡ t .count → requests ≡ t .requests → record { header = header; addressee = addressee; number = record { 0 = number }; highest = record { 0 = highest }; aru = record { 0 = aru }; blocker = blocker; round = round; count = count; requests = requests } ≡ t
+token-same : (t : Token) (header : Header) (addressee number highest aru : ℕ) (blocker : Blocker) (round count : ℕ) (requests : List ℕ)
+    → header ≡ t .header
+    → addressee ≡ t .addressee
+    → number ≡ t .number .0
+    → highest ≡ t .highest .0
+    → aru ≡ t .aru .0
+    → blocker ≡ t .blocker
+    → round ≡ t .round
+    → count ≡ t .count
+    → requests ≡ t .requests
+    → record { header = header; addressee = addressee; number = record { 0 = number }; highest = record { 0 = highest }; aru = record { 0 = aru }; blocker = blocker; round = round; count = count; requests = requests } ≡ t
 token-same t header addressee number highest aru blocker round count requests e₁ e₂ e₃ e₄ e₅ e₆ e₇ e₈ e₉ = rw (e₁, e₂, e₃, e₄, e₅, e₆, e₇, e₈, e₉)
 
 module _ (t : Token) (facts : TokenFacts t) where

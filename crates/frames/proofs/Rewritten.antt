@@ -63,7 +63,12 @@ exact-facts s e =
 
 -- ---- the header
 
-header-there : (s : List ℕ) (size kind : ℕ) → Bytes s → headerSize ≤ length s → size - lengthSize ≡ wordAt 2 s lengthAt → kind ≡ wordAt 2 s kindAt → headerBytes size kind (headerOf s) ++ drop headerSize s ≡ s
+header-there : (s : List ℕ) (size kind : ℕ)
+    → Bytes s
+    → headerSize ≤ length s
+    → size - lengthSize ≡ wordAt 2 s lengthAt
+    → kind ≡ wordAt 2 s kindAt
+    → headerBytes size kind (headerOf s) ++ drop headerSize s ≡ s
 unfolding headerBytes headerOf
 header-there s size kind b long sized kinded =
     let w₁ = word-split 2 s lengthAt b (omega arith) in
@@ -102,7 +107,13 @@ message-read s m e =
       values = cc;
     }
 
-message-there : (s : List ℕ) → Bytes s → contentAt ≤ length s → wordAt 4 s configurationAt ≡ configuration → messageSize (length (contentOf s)) - lengthSize ≡ wordAt 2 s lengthAt → wordAt 2 s kindAt ≡ messageKind → messageBytes (messageOf s) (contentOf s) ≡ s
+message-there : (s : List ℕ)
+    → Bytes s
+    → contentAt ≤ length s
+    → wordAt 4 s configurationAt ≡ configuration
+    → messageSize (length (contentOf s)) - lengthSize ≡ wordAt 2 s lengthAt
+    → wordAt 2 s kindAt ≡ messageKind
+    → messageBytes (messageOf s) (contentOf s) ≡ s
 unfolding messageFixed messageOf
 message-there s b long configured sized kinded =
     let h = header-there s (messageSize (length (contentOf s))) messageKind b (omega arith) sized (sym kinded) in
@@ -159,7 +170,12 @@ requests-there s n b size =
     let there : wordsBytes 4 (words 4 n rest) ++ [] ≡ rest = rw none at (words-there 4 n rest (bytes-drop requestsAt s b) (omega (arith, long))) in
     rw first (rw append-nil at there)
 
-token-there : (s : List ℕ) → Bytes s → length s ≡ tokenSize (requestCount s) → tokenSize (requestCount s) - lengthSize ≡ wordAt 2 s lengthAt → wordAt 2 s kindAt ≡ tokenKind → tokenBytes (tokenOf s) ≡ s
+token-there : (s : List ℕ)
+    → Bytes s
+    → length s ≡ tokenSize (requestCount s)
+    → tokenSize (requestCount s) - lengthSize ≡ wordAt 2 s lengthAt
+    → wordAt 2 s kindAt ≡ tokenKind
+    → tokenBytes (tokenOf s) ≡ s
 unfolding tokenFixed tokenOf
 token-there s b size sized kinded =
     let h = header-there s (tokenSize (requestCount s)) tokenKind b (omega arith) sized (sym kinded) in

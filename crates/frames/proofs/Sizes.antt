@@ -1,13 +1,18 @@
 -- How many bytes each part of a frame has.
-use Prim.Native.Nat.{ℕ, _≤_}
-use mathlib.Core.Path.{_≡_}
+use Prim.Native.Nat.{ℕ, _+_, _<_, _≤_}
+use mathlib.Core.Path.{_≡_, refl}
+use mathlib.Core.Bool.{Bool, true, false, cond}
 use mathlib.Core.List.{List}
+use borrow.Author.Tests.{leb-false}
+use native.Mathlib.Omega.{arith}
+use lib.Dec.{leb}
+use Rattle.words.specs.Word.{wordAt}
 use lib.ListN.{length, length-append}
 use lib.Seq.{length-take-le}
 use Rattle.words.proofs.WordLaws.{length-word}
 use Rattle.words.proofs.RunLaws.{length-words-bytes}
-use Rattle.frames.specs.Layout.{headerSize, contentAt, messageSize, requestsAt, tokenSize}
-use Rattle.frames.specs.Header.{headerBytes}
+use Rattle.frames.specs.Layout.{lengthAt, lengthSize, headerSize, contentAt, messageSize, requestsAt, tokenSize}
+use Rattle.frames.specs.Header.{framedSize, headerBytes}
 use Rattle.frames.specs.Message.{messageFixed, messageBytes}
 use Rattle.frames.specs.Token.{tokenFixed, tokenBytes}
 use Rattle.frames.specs.declared.header.Header.{Header}
@@ -31,3 +36,13 @@ token-fixed-length t = simp (length-append, length-word, header-length)
 
 pub token-length : (t : Token) → t .count ≤ length (t .requests) → length (tokenBytes t) ≡ tokenSize (t .count)
 token-length t few = simp (length-append, token-fixed-length, length-words-bytes, length-take-le (t .count) (t .requests) few)
+
+-- ---- a stream
+
+none-framed : (b : Bool) (n : ℕ) → cond b (lengthSize + n) 0 ≡ 0 → b ≡ false
+none-framed true n e = absurd (omega arith)
+none-framed false n e = refl
+
+pub framed-none : (s : List ℕ) → framedSize s ≡ 0 → length s < lengthSize
+unfolding framedSize
+framed-none s e = leb-false lengthSize (length s) (none-framed (leb lengthSize (length s)) (wordAt 2 s lengthAt) e)

@@ -31,7 +31,12 @@ module _ (n : ℕ) (requests : List ℕ) (highest : ℕ) (places : length reques
   unfolding requestsFollow
   requests-many many = simp (eq-eqb _ _ places, lt-leb _ _ many)
 
-  pub requests-tested : (known once rest : Bool) → n ≤ mostRequests → known ≡ allWithin 1 highest (take n requests) → once ≡ distinct (take n requests) → rest ≡ allZero (take (length requests - n) (drop n requests)) → known && once && rest ≡ requestsFollow n requests highest
+  pub requests-tested : (known once rest : Bool)
+      → n ≤ mostRequests
+      → known ≡ allWithin 1 highest (take n requests)
+      → once ≡ distinct (take n requests)
+      → rest ≡ allZero (take (length requests - n) (drop n requests))
+      → known && once && rest ≡ requestsFollow n requests highest
   unfolding requestsFollow
   requests-tested known once rest few e f g = rw (e, f, rw to-end at g, eq-eqb _ _ places, le-leb _ _ few)
 

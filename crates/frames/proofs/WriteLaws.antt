@@ -26,11 +26,19 @@ module _ (follows : Bool) (frame out : List ℕ) where
   unfolding written
   write-malformed bad = (rw bad, rw bad)
 
-  pub write-roomless : (n : ℕ) → follows ≡ true → length frame ≡ n → length out < n → (outcomeOf (Refused NoRoom) ≡ (written follows frame out) .outcome) × (out ≡ (written follows frame out) .out)
+  pub write-roomless : (n : ℕ)
+      → follows ≡ true
+      → length frame ≡ n
+      → length out < n
+      → (outcomeOf (Refused NoRoom) ≡ (written follows frame out) .outcome) × (out ≡ (written follows frame out) .out)
   unfolding written
   write-roomless n ok size less = let short = lt-leb n (length out) less in (rw (ok, size, short), rw (ok, size, short))
 
-  pub write-taken : (n : ℕ) (out′ : List ℕ) → follows ≡ true → Stored out 0 frame n out′ → n ≤ length out → (outcomeOf (Size n) ≡ (written follows frame out) .outcome) × (out′ ≡ (written follows frame out) .out)
+  pub write-taken : (n : ℕ) (out′ : List ℕ)
+      → follows ≡ true
+      → Stored out 0 frame n out′
+      → n ≤ length out
+      → (outcomeOf (Size n) ≡ (written follows frame out) .outcome) × (out′ ≡ (written follows frame out) .out)
   unfolding written
   write-taken n out′ ok stored room =
       let fits = le-leb n (length out) room in

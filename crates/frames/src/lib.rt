@@ -11,6 +11,7 @@ mod writer;
 
 pub use header::Header;
 pub use header::framed_size;
+pub use layout::MOST_REQUESTS;
 pub use message::Message;
 pub use message::content;
 pub use message::message_follows;

@@ -64,7 +64,11 @@ front : (w k : ℕ) (s : List ℕ) → wordAt w (drop k s) 0 ≡ wordAt w s k
 unfolding wordAt
 front w k s = refl
 
-pub reading-goes : (w n at : ℕ) (s out₀ : List ℕ) (i : ℕ) (out : List ℕ) (x : ℕ) → Reading w n at s out₀ i out → i < n → x ≡ wordAt w s (at + w * i) → Reading w n at s out₀ (i + 1) (set out i x)
+pub reading-goes : (w n at : ℕ) (s out₀ : List ℕ) (i : ℕ) (out : List ℕ) (x : ℕ)
+    → Reading w n at s out₀ i out
+    → i < n
+    → x ≡ wordAt w s (at + w * i)
+    → Reading w n at s out₀ (i + 1) (set out i x)
 unfolding words
 reading-goes w n at s out₀ i out x r h e =
     let left : n - i ≡ suc (n - (i + 1)) = omega arith in
@@ -91,7 +95,11 @@ pub record Storing (w at : ℕ) (xs out₀ : List ℕ) (i : ℕ) (out : List ℕ
 pub storing-starts : (w at : ℕ) (xs out₀ : List ℕ) → Storing w at xs out₀ 0 out₀
 storing-starts w at xs out₀ = record { within = omega arith; size = refl; rest = rw (mul-zero, add-zero) }
 
-pub storing-goes : (w at : ℕ) (xs out₀ : List ℕ) (i : ℕ) (out out′ : List ℕ) → Storing w at xs out₀ i out → i < length xs → out′ ≡ sets out (at + w * i) (wordBytes w (getD xs i 0)) → Storing w at xs out₀ (i + 1) out′
+pub storing-goes : (w at : ℕ) (xs out₀ : List ℕ) (i : ℕ) (out out′ : List ℕ)
+    → Storing w at xs out₀ i out
+    → i < length xs
+    → out′ ≡ sets out (at + w * i) (wordBytes w (getD xs i 0))
+    → Storing w at xs out₀ (i + 1) out′
 unfolding wordsBytes
 storing-goes w at xs out₀ i out out′ r h e =
     let next : at + w * i + w ≡ at + w * (i + 1) = omega arith in

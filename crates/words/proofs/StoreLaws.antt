@@ -20,7 +20,11 @@ pub stored-none : (l : List ℕ) (at : ℕ) → Stored l at [] 0 l
 stored-none l at = record { size = refl; is = refl }
 
 -- k bytes more, stored right after them
-pub stored-next : {l : List ℕ} {at : ℕ} {p : List ℕ} {n : ℕ} {l₁ : List ℕ} (k : ℕ) (q l₂ : List ℕ) → Stored l at p n l₁ → length q ≡ k → l₂ ≡ sets l₁ (at + n) q → Stored l at (p ++ q) (n + k) l₂
+pub stored-next : {l : List ℕ} {at : ℕ} {p : List ℕ} {n : ℕ} {l₁ : List ℕ} (k : ℕ) (q l₂ : List ℕ)
+    → Stored l at p n l₁
+    → length q ≡ k
+    → l₂ ≡ sets l₁ (at + n) q
+    → Stored l at (p ++ q) (n + k) l₂
 stored-next {l} {at} {p} {n} {l₁} k q l₂ first long e =
     record {
       size = length-append p q ∙ rw (first .size, long);

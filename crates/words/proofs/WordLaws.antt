@@ -96,7 +96,10 @@ word-stored v w x at l l₁ l₂ e f =
     rw (f, e, bytes-low, bytes-join, sets-append, length-word)
 
 -- a word stored right after what was stored before
-pub stored-word : {l : List ℕ} {at : ℕ} {p : List ℕ} {n : ℕ} {l₁ : List ℕ} (w x : ℕ) (l₂ : List ℕ) → Stored l at p n l₁ → l₂ ≡ sets l₁ (at + n) (wordBytes w x) → Stored l at (p ++ wordBytes w x) (n + w) l₂
+pub stored-word : {l : List ℕ} {at : ℕ} {p : List ℕ} {n : ℕ} {l₁ : List ℕ} (w x : ℕ) (l₂ : List ℕ)
+    → Stored l at p n l₁
+    → l₂ ≡ sets l₁ (at + n) (wordBytes w x)
+    → Stored l at (p ++ wordBytes w x) (n + w) l₂
 stored-word w x l₂ first e = stored-next w (wordBytes w x) l₂ first (length-word w x) e
 
 -- ---- a word of one byte is the byte

@@ -2,7 +2,7 @@ use Prim.Native.Nat.{_-_}
 use mathlib.Core.Path.{refl}
 use native.Mathlib.Omega.{arith}
 use borrow.Author.Needs.{needs}
-use Rattle.dump.proofs.ShiftLaws.{Shifting, shifting-starts, shifting-goes, shifting-ends}
+use Rattle.dump.proofs.InputLaws.{Shifting, shifting-starts, shifting-goes, shifting-ends}
 use Rattle.dump.proofs.input.keep_rest.Statement.{statement}
 use Rattle.dump.proofs.input.keep_rest.Tie as tie
 
@@ -25,4 +25,7 @@ returns-2 : tie.Need-returns-2 Inv-loop μ-loop
 returns-2 c = (refl, shifting-ends _ _ _ _ _ (c .before .loop .inv) (c .loop-test .left))
 
 pub keep-rest-spec : {M : Type 1} → statement M
-keep-rest-spec = tie.close (tie.spec Inv-loop μ-loop (λ c. search needs) returns loop-holds (λ c. search needs) (λ c. search needs) (λ c. search needs) (λ c. search needs) (λ c. search needs) loop-again (λ c. search needs) returns-2)
+keep-rest-spec =
+    tie.close
+    (tie.spec Inv-loop μ-loop (λ c. search needs) returns loop-holds (λ c. search needs) (λ c. search needs)
+    (λ c. search needs) (λ c. search needs) (λ c. search needs) loop-again (λ c. search needs) returns-2)

@@ -17,10 +17,20 @@ loop-holds : tie.Need-loop-holds Inv-loop μ-loop
 loop-holds c = (search needs, each-starts following (c .before .before .args .numbers .now) _ _ (c .before .before .pre))
 
 loop-again : tie.Need-loop-again Inv-loop μ-loop
-loop-again c = (search needs, each-goes following (c .before .before .before .before .before .before .before .before .before .args .numbers .now) _ (c .before .before .before .before .before .loop-test .taken) (c .before .before .before .before .before .before .loop .inv .1) (c .before .before .put-next .ensures))
+loop-again c = (
+  search needs,
+  each-goes following
+      (c .before .before .before .before .before .before .before .before .before .args .numbers .now) _
+      (c .before .before .before .before .before .loop-test .taken)
+      (c .before .before .before .before .before .before .loop .inv .1)
+      (c .before .before .put-next .ensures),
+)
 
 returns : tie.Need-returns Inv-loop μ-loop
 returns c = each-ends following (c .before .before .before .before .args .numbers .now) _ (c .loop-test .left) (c .before .loop .inv .1)
 
 pub put-following-spec : {M : Type 1} → statement M
-put-following-spec = tie.close (tie.spec Inv-loop μ-loop loop-holds (λ c. search needs) (λ c. search needs) (λ c κs. search needs) (λ c. search needs) (λ c. search needs) loop-again (λ c. search needs) returns)
+put-following-spec =
+    tie.close
+    (tie.spec Inv-loop μ-loop loop-holds (λ c. search needs) (λ c. search needs) (λ c κs. search needs) (λ c. search needs)
+    (λ c. search needs) loop-again (λ c. search needs) returns)

@@ -11,4 +11,7 @@ returns-2 : tie.Need-returns-2
 returns-2 c = put-left-out _ _ _ (omega arith) (c .if2 .taken)
 
 pub put-bytes-spec : {M : Type 1} → statement M
-put-bytes-spec = tie.close (tie.spec returns (λ c. search needs) returns-2 (λ c κs. search needs) (λ c. search needs) (λ c. search needs) (λ c. search needs))
+put-bytes-spec =
+    tie.close
+    (tie.spec returns (λ c. search needs) returns-2 (λ c κs. search needs) (λ c. search needs) (λ c. search needs)
+    (λ c. search needs))

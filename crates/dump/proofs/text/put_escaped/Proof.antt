@@ -16,10 +16,20 @@ loop-holds : tie.Need-loop-holds Inv-loop μ-loop
 loop-holds c = (search needs, each-starts escapedByte (c .before .before .args .bytes .now) _ _ (c .before .before .pre))
 
 loop-again : tie.Need-loop-again Inv-loop μ-loop
-loop-again c = (search needs, each-goes escapedByte (c .before .before .before .before .before .before .before .before .before .args .bytes .now) _ (c .before .before .before .before .before .loop-test .taken) (c .before .before .before .before .before .before .loop .inv .1) (c .before .before .put-escaped-byte .ensures))
+loop-again c = (
+  search needs,
+  each-goes escapedByte
+      (c .before .before .before .before .before .before .before .before .before .args .bytes .now) _
+      (c .before .before .before .before .before .loop-test .taken)
+      (c .before .before .before .before .before .before .loop .inv .1)
+      (c .before .before .put-escaped-byte .ensures),
+)
 
 returns : tie.Need-returns Inv-loop μ-loop
 returns c = each-ends escapedByte (c .before .before .before .before .args .bytes .now) _ (c .loop-test .left) (c .before .loop .inv .1)
 
 pub put-escaped-spec : {M : Type 1} → statement M
-put-escaped-spec = tie.close (tie.spec Inv-loop μ-loop loop-holds (λ c. search needs) (λ c κs. search needs) (λ c. search needs) (λ c. search needs) loop-again (λ c. search needs) returns)
+put-escaped-spec =
+    tie.close
+    (tie.spec Inv-loop μ-loop loop-holds (λ c. search needs) (λ c κs. search needs) (λ c. search needs) (λ c. search needs)
+    loop-again (λ c. search needs) returns)

@@ -16,10 +16,23 @@ returns-3 : tie.Need-returns-3
 returns-3 c = c .refuse3 .ensures ∙ token-missized (c .before .before .before .before .before .before .before .args .frame .now) (omega arith) (omega arith) (omega arith)
 
 returns-4 : tie.Need-returns-4
-returns-4 c = c .refuse4 .ensures ∙ token-wrong (c .before .before .before .before .before .before .before .before .before .before .args .frame .now) _ _ (omega arith) (omega arith) (omega arith) (c .before .before .before .token-of .ensures) (c .before .before .token-follows .ensures) (not-true _ (c .before .if4 .taken))
+returns-4 c =
+    c .refuse4 .ensures ∙ token-wrong
+    (c .before .before .before .before .before .before .before .before .before .before .args .frame .now) _ _ (omega arith) (omega arith) (omega arith)
+    (c .before .before .before .token-of .ensures)
+    (c .before .before .token-follows .ensures) (not-true _
+    (c .before .if4 .taken))
 
 returns-5 : tie.Need-returns-5
-returns-5 c = token-right (c .before .before .before .before .before .before .before .before .before .args .frame .now) _ _ (omega arith) (omega arith) (omega arith) (c .before .before .token-of .ensures) (c .before .token-follows .ensures) (not-false _ (c .if4 .left))
+returns-5 c =
+    token-right
+    (c .before .before .before .before .before .before .before .before .before .args .frame .now) _ _ (omega arith) (omega arith) (omega arith)
+    (c .before .before .token-of .ensures)
+    (c .before .token-follows .ensures) (not-false _ (c .if4 .left))
 
 pub read-token-spec : {M : Type 1} → statement M
-read-token-spec = tie.close (tie.spec (λ c κs. search needs) returns (λ c κs. search needs) (λ c. search needs) (λ c κs. search needs) returns-2 (λ c κs. search needs) (λ c κs. search needs) returns-3 (λ c κs. search needs) (λ c κs. search needs) (λ c κs. search needs) returns-4 returns-5)
+read-token-spec =
+    tie.close
+    (tie.spec (λ c κs. search needs) returns (λ c κs. search needs) (λ c. search needs) (λ c κs. search needs) returns-2
+    (λ c κs. search needs) (λ c κs. search needs) returns-3 (λ c κs. search needs) (λ c κs. search needs)
+    (λ c κs. search needs) returns-4 returns-5)

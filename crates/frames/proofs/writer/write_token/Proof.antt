@@ -23,7 +23,11 @@ returns : tie.Need-returns
 returns c = write-malformed _ _ _ (sym (c .before .token-follows .ensures) ∙ not-true _ (c .if1 .taken))
 
 returns-2 : tie.Need-returns-2
-returns-2 c = write-roomless _ _ _ _ (follows (c .before .before)) (token-length _ (few (c .before .before)) ∙ sym (c .before .token-size .ensures)) (c .if2 .taken)
+returns-2 c =
+    write-roomless _ _ _ _ (follows
+    (c .before .before)) (token-length _ (few
+    (c .before .before)) ∙ sym
+    (c .before .token-size .ensures)) (c .if2 .taken)
 
 put-token-fixed-requires : tie.Need-put-token-fixed-requires
 put-token-fixed-requires c κs = let facts = token-facts _ (follows (c .before .before .before .before)) in (omega arith, facts .requests .few)
@@ -40,7 +44,17 @@ put-u32s-requires c κs = let t = c .before .before .before .before .before .bef
     omega (arith, e)
 
 returns-3 : tie.Need-returns-3
-returns-3 c = token-taken _ _ _ _ _ (follows (c .before .before .before .before .before .before .before .before .before .before .before .before)) (c .before .before .before .before .before .before .before .before .before .before .before .token-size .ensures) (c .before .before .before .before .before .before .before .before .before .before .if2 .left) (few (c .before .before .before .before .before .before .before .before .before .before .before .before)) (c .before .before .before .before .before .before .before .put-token-fixed .ensures) (c .before .before .put-u32s .ensures)
+returns-3 c =
+    token-taken _ _ _ _ _ (follows
+    (c .before .before .before .before .before .before .before .before .before .before .before .before))
+    (c .before .before .before .before .before .before .before .before .before .before .before .token-size .ensures)
+    (c .before .before .before .before .before .before .before .before .before .before .if2 .left) (few
+    (c .before .before .before .before .before .before .before .before .before .before .before .before))
+    (c .before .before .before .before .before .before .before .put-token-fixed .ensures)
+    (c .before .before .put-u32s .ensures)
 
 pub write-token-spec : {M : Type 1} → statement M
-write-token-spec = tie.close (tie.spec (λ c κs. search needs) returns (λ c κs. search needs) returns-2 (λ c. search needs) put-token-fixed-requires array-share-prefix-requests slice-aggregate-put-u32s put-u32s-requires (λ c. search needs) returns-3)
+write-token-spec =
+    tie.close
+    (tie.spec (λ c κs. search needs) returns (λ c κs. search needs) returns-2 (λ c. search needs) put-token-fixed-requires
+    array-share-prefix-requests slice-aggregate-put-u32s put-u32s-requires (λ c. search needs) returns-3)

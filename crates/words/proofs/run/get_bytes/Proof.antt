@@ -9,4 +9,7 @@ returns c = let start = c .before .before .before .before .before .before .befor
     part-stored (start .at) (start .n) (start .s .now) (start .out .now) _ (omega arith) (omega arith) (c .before .before .put-bytes .ensures)
 
 pub get-bytes-spec : {M : Type 1} → statement M
-get-bytes-spec = tie.close (tie.spec (λ c. search needs) (λ c. search needs) (λ c. search needs) (λ c. search needs) (λ c κs. search needs) (λ c. search needs) returns)
+get-bytes-spec =
+    tie.close
+    (tie.spec (λ c. search needs) (λ c. search needs) (λ c. search needs) (λ c. search needs) (λ c κs. search needs)
+    (λ c. search needs) returns)

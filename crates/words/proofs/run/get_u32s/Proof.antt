@@ -21,4 +21,7 @@ returns : tie.Need-returns Inv-loop μ-loop
 returns c = reading-ends 4 _ _ _ _ _ _ (c .before .loop .inv) (c .loop-test .left) (omega arith)
 
 pub get-u32s-spec : {M : Type 1} → statement M
-get-u32s-spec = tie.close (tie.spec Inv-loop μ-loop loop-holds (λ c. search needs) (λ c. search needs) (λ c κs. search needs) (λ c. search needs) (λ c. search needs) (λ c. search needs) (λ c. search needs) loop-again (λ c. search needs) returns)
+get-u32s-spec =
+    tie.close
+    (tie.spec Inv-loop μ-loop loop-holds (λ c. search needs) (λ c. search needs) (λ c κs. search needs) (λ c. search needs)
+    (λ c. search needs) (λ c. search needs) (λ c. search needs) loop-again (λ c. search needs) returns)

@@ -15,10 +15,17 @@ loop-holds : tie.Need-loop-holds Inv-loop μ-loop
 loop-holds c = storing-starts 2 _ _ _
 
 loop-again : tie.Need-loop-again Inv-loop μ-loop
-loop-again c = storing-goes 2 _ _ _ _ _ _ (c .before .before .before .before .before .before .loop .inv) (c .before .before .before .before .before .loop-test .taken) (c .before .before .put-u16 .ensures)
+loop-again c =
+    storing-goes 2 _ _ _ _ _ _
+    (c .before .before .before .before .before .before .loop .inv)
+    (c .before .before .before .before .before .loop-test .taken)
+    (c .before .before .put-u16 .ensures)
 
 returns : tie.Need-returns Inv-loop μ-loop
 returns c = storing-ends 2 _ _ _ _ _ (c .before .loop .inv) (c .loop-test .left)
 
 pub put-u16s-spec : {M : Type 1} → statement M
-put-u16s-spec = tie.close (tie.spec Inv-loop μ-loop loop-holds (λ c. search needs) (λ c. search needs) (λ c. search needs) (λ c. search needs) (λ c κs. search needs) (λ c. search needs) (λ c. search needs) loop-again (λ c. search needs) returns)
+put-u16s-spec =
+    tie.close
+    (tie.spec Inv-loop μ-loop loop-holds (λ c. search needs) (λ c. search needs) (λ c. search needs) (λ c. search needs)
+    (λ c κs. search needs) (λ c. search needs) (λ c. search needs) loop-again (λ c. search needs) returns)

@@ -18,13 +18,25 @@ loop-holds : tie.Need-loop-holds Inv-loop μ-loop
 loop-holds c = scan-starts _ _
 
 returns : tie.Need-returns Inv-loop μ-loop
-returns c = scan-stops _ _ _ (c .before .before .before .before .before .loop .inv) (c .before .before .before .before .loop-test .taken) (rw to-end at (sym (c .before .lacks-u32 .ensures)) ∙ not-true _ (c .if1 .taken))
+returns c =
+    scan-stops _ _ _
+    (c .before .before .before .before .before .loop .inv)
+    (c .before .before .before .before .loop-test .taken) (rw to-end at (sym
+    (c .before .lacks-u32 .ensures)) ∙ not-true _ (c .if1 .taken))
 
 loop-again : tie.Need-loop-again Inv-loop μ-loop
-loop-again c = scan-goes _ _ _ (c .before .before .before .before .before .loop .inv) (c .before .before .before .before .loop-test .taken) (rw to-end at (sym (c .before .lacks-u32 .ensures)) ∙ not-false _ (c .if1 .left))
+loop-again c =
+    scan-goes _ _ _
+    (c .before .before .before .before .before .loop .inv)
+    (c .before .before .before .before .loop-test .taken) (rw to-end at (sym
+    (c .before .lacks-u32 .ensures)) ∙ not-false _ (c .if1 .left))
 
 returns-2 : tie.Need-returns-2 Inv-loop μ-loop
 returns-2 c = scan-ends _ _ _ (c .before .loop .inv) (c .loop-test .left)
 
 pub distinct-u32-spec : {M : Type 1} → statement M
-distinct-u32-spec = tie.close (tie.spec Inv-loop μ-loop loop-holds (λ c. search needs) (λ c. search needs) (λ c. search needs) (λ c. search needs) (λ c. search needs) (λ c. search needs) (λ c. search needs) (λ c κs. search needs) returns (λ c. search needs) (λ c. search needs) loop-again returns-2)
+distinct-u32-spec =
+    tie.close
+    (tie.spec Inv-loop μ-loop loop-holds (λ c. search needs) (λ c. search needs) (λ c. search needs) (λ c. search needs)
+    (λ c. search needs) (λ c. search needs) (λ c. search needs) (λ c κs. search needs) returns (λ c. search needs)
+    (λ c. search needs) loop-again returns-2)

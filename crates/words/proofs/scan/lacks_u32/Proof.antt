@@ -27,4 +27,7 @@ returns-2 : tie.Need-returns-2 Inv-loop μ-loop
 returns-2 c = scan-ends _ _ _ (c .before .loop .inv) (c .loop-test .left)
 
 pub lacks-u32-spec : {M : Type 1} → statement M
-lacks-u32-spec = tie.close (tie.spec Inv-loop μ-loop loop-holds (λ c. search needs) (λ c. search needs) returns (λ c. search needs) (λ c. search needs) loop-again returns-2)
+lacks-u32-spec =
+    tie.close
+    (tie.spec Inv-loop μ-loop loop-holds (λ c. search needs) (λ c. search needs) returns (λ c. search needs)
+    (λ c. search needs) loop-again returns-2)

@@ -8,4 +8,7 @@ returns : tie.Need-returns
 returns c = let start = c .before .before .before .before .before in omega (arith, word-join 2 2 (start .args .s .now) (start .args .at) (omega arith))
 
 pub get-u32-spec : {M : Type 1} → statement M
-get-u32-spec = tie.close (tie.spec (λ c κs. search needs) (λ c κs. search needs) (λ c. search needs) (λ c κs. search needs) (λ c κs. search needs) (λ c. search needs) (λ c. search needs) returns)
+get-u32-spec =
+    tie.close
+    (tie.spec (λ c κs. search needs) (λ c κs. search needs) (λ c. search needs) (λ c κs. search needs)
+    (λ c κs. search needs) (λ c. search needs) (λ c. search needs) returns)

@@ -1,12 +1,18 @@
--- A loop that moves the bytes of a buffer from `from` on to its front, the first first: those passed are moved, and the others are as they were.
-use Prim.Native.Nat.{ℕ, suc, _+_, _<_, _≤_}
+-- Laws of a buffer of input.
+use Prim.Native.Nat.{ℕ, suc, _+_, _-_, _<_, _≤_}
 use mathlib.Core.Path.{_≡_, refl, sym, ap, _∙_}
 use mathlib.Core.List.{List}
 use native.Mathlib.Nat.{add-comm}
 use native.Mathlib.Numerals.{add-one}
 use native.Mathlib.Omega.{arith}
-use lib.ListN.{length, getD, set, take, drop, length-set, length-drop}
+use lib.ListN.{length, getD, set, take, drop, length-set, length-take, length-drop}
 use lib.Seq.{take-suc, take-suc-set, drop-set-lt, drop-drop, getD-drop}
+
+-- what is left from `from` on, as the code spells it, is short
+pub rest-short : (from most : ℕ) (s : List ℕ) → length (take (length s - from) (drop from s)) < most → length s < from + most
+rest-short from most s h = let short = simp (length-take, length-drop) at h in omega arith
+
+-- ---- a loop that moves the bytes from `from` on to the front, the first first: those passed are moved, and the others are as they were
 
 pub record Shifting (from n : ℕ) (s₀ : List ℕ) (i : ℕ) (s : List ℕ) : Type 0 where
   pub within : i ≤ n
