@@ -28,7 +28,7 @@ abbrev pub blockerFollows : Blocker → ℕ → ℕ → Bool
 blockerFollows Nobody aru highest = eqb aru highest
 blockerFollows (Member id) aru highest = not (eqb aru highest) && isId id
 
--- ---- the requests: the first `count` of 16 places, the others zero
+-- ---- the requests: the first `count` of 16 places, the others zero. A list has any length, so the test asks for the 16 too
 
 unfoldable pub requestsOf : ℕ → List ℕ → List ℕ
 requestsOf n s = words 4 n (drop requestsAt s) ++ replicate (mostRequests - n) 0
