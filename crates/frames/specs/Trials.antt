@@ -61,8 +61,8 @@ abbrev pub header : ℕ → Header
 header ring = record { ring = record { 0 = ring }; representative = 3 }
 
 -- a message of ring 4: number, service
-abbrev pub aMessage : ℕ → ℕ → Message
-aMessage n service = record { header = header 4; sender = 7; number = record { 0 = n }; service = service }
+abbrev pub sampleMessage : ℕ → ℕ → Message
+sampleMessage n service = record { header = header 4; sender = 7; number = record { 0 = n }; service = service }
 
 -- a token to 3: ring number, token number, highest, aru, blocker, round count, and a count of requests with its places
 abbrev pub tokenWith : ℕ → ℕ → ℕ → ℕ → Blocker → ℕ → ℕ → List ℕ → Token
@@ -80,8 +80,8 @@ tokenWith ring n highest aru blocker round count requests =
     }
 
 -- a token of ring 4 and number 1 with these requests: highest, aru, blocker, round count, requests
-abbrev pub aToken : ℕ → ℕ → Blocker → ℕ → List ℕ → Token
-aToken highest aru blocker round requests = tokenWith 4 1 highest aru blocker round (length requests) requests
+abbrev pub sampleToken : ℕ → ℕ → Blocker → ℕ → List ℕ → Token
+sampleToken highest aru blocker round requests = tokenWith 4 1 highest aru blocker round (length requests) requests
 
 abbrev pub from1to : ℕ → List ℕ
 from1to zero = []
@@ -96,40 +96,40 @@ firstToken =
 
 unfoldable pub table : List Trial
 table =
-    are (tokenBytes (aToken 0 0 Nobody 0 [])) firstToken
+    are (tokenBytes (sampleToken 0 0 Nobody 0 [])) firstToken
     -- messages
-    ∷ message (aMessage 1 0) [] 0 22  -- no content
-    ∷ message (aMessage 1 1) (replicate 64 111) 0 86  -- 64 bytes
-    ∷ message (aMessage 1 0) (replicate 65 111) 12 0  -- 65
-    ∷ message (aMessage 1 2) [] 12 0  -- service 2
-    ∷ message (aMessage 0 0) [] 12 0  -- number 0
-    ∷ message (aMessage 2000000000 0) [] 0 22  -- the largest number
-    ∷ message (aMessage 2000000001 0) [] 12 0  -- one more
+    ∷ message (sampleMessage 1 0) [] 0 22  -- no content
+    ∷ message (sampleMessage 1 1) (replicate 64 111) 0 86  -- 64 bytes
+    ∷ message (sampleMessage 1 0) (replicate 65 111) 12 0  -- 65
+    ∷ message (sampleMessage 1 2) [] 12 0  -- service 2
+    ∷ message (sampleMessage 0 0) [] 12 0  -- number 0
+    ∷ message (sampleMessage 2000000000 0) [] 0 22  -- the largest number
+    ∷ message (sampleMessage 2000000001 0) [] 12 0  -- one more
     -- tokens
     ∷ token (tokenWith 2000000000 1 0 0 Nobody 0 0 []) 0 30  -- ring number
     ∷ token (tokenWith 2000000001 1 0 0 Nobody 0 0 []) 12 0
     ∷ token (tokenWith 4 2000000000 0 0 Nobody 0 0 []) 0 30  -- token number
     ∷ token (tokenWith 4 2000000001 0 0 Nobody 0 0 []) 12 0
-    ∷ token (aToken 2000000000 2000000000 Nobody 0 []) 0 30  -- highest
-    ∷ token (aToken 2000000001 2000000001 Nobody 0 []) 12 0
-    ∷ token (aToken 10 5 (Member 7) 0 []) 0 30
-    ∷ token (aToken 10 11 (Member 7) 0 []) 12 0  -- aru above the highest
-    ∷ token (aToken 10 10 (Member 7) 0 []) 12 0  -- a blocker with aru equal to the highest
-    ∷ token (aToken 10 9 Nobody 0 []) 12 0  -- nobody with aru below it
-    ∷ token (aToken 10 5 (Member 0) 0 []) 12 0  -- a blocker with id 0
-    ∷ token (aToken 10 5 (Member 7) 128 []) 0 30  -- round count 128
-    ∷ token (aToken 10 5 (Member 7) 129 []) 12 0  -- 129
-    ∷ token (aToken 20 0 (Member 7) 0 (from1to 16)) 0 94  -- 16 requests
-    ∷ reads (tokenBytes (aToken 20 0 (Member 7) 0 (from1to 17))) 12  -- 17 in a frame
+    ∷ token (sampleToken 2000000000 2000000000 Nobody 0 []) 0 30  -- highest
+    ∷ token (sampleToken 2000000001 2000000001 Nobody 0 []) 12 0
+    ∷ token (sampleToken 10 5 (Member 7) 0 []) 0 30
+    ∷ token (sampleToken 10 11 (Member 7) 0 []) 12 0  -- aru above the highest
+    ∷ token (sampleToken 10 10 (Member 7) 0 []) 12 0  -- a blocker with aru equal to the highest
+    ∷ token (sampleToken 10 9 Nobody 0 []) 12 0  -- nobody with aru below it
+    ∷ token (sampleToken 10 5 (Member 0) 0 []) 12 0  -- a blocker with id 0
+    ∷ token (sampleToken 10 5 (Member 7) 128 []) 0 30  -- round count 128
+    ∷ token (sampleToken 10 5 (Member 7) 129 []) 12 0  -- 129
+    ∷ token (sampleToken 20 0 (Member 7) 0 (from1to 16)) 0 94  -- 16 requests
+    ∷ reads (tokenBytes (sampleToken 20 0 (Member 7) 0 (from1to 17))) 12  -- 17 in a frame
     ∷ writes (tokenWritten (tokenWith 4 1 20 0 (Member 7) 0 17 (from1to 16)) room) 12  -- 17 counted in 16 places
     ∷ writes (tokenWritten (tokenWith 4 1 20 0 (Member 7) 0 1 (6 ∷ 8 ∷ [])) room) 12  -- a place that is not counted and not zero
-    ∷ token (aToken 10 5 (Member 7) 0 (6 ∷ 8 ∷ 6 ∷ [])) 12 0  -- a request twice
-    ∷ token (aToken 10 5 (Member 7) 0 (6 ∷ 10 ∷ [])) 0 38
-    ∷ token (aToken 10 5 (Member 7) 0 (6 ∷ 11 ∷ [])) 12 0  -- a request above the highest
-    ∷ token (aToken 10 5 (Member 7) 0 (0 ∷ [])) 12 0  -- a request 0
+    ∷ token (sampleToken 10 5 (Member 7) 0 (6 ∷ 8 ∷ 6 ∷ [])) 12 0  -- a request twice
+    ∷ token (sampleToken 10 5 (Member 7) 0 (6 ∷ 10 ∷ [])) 0 38
+    ∷ token (sampleToken 10 5 (Member 7) 0 (6 ∷ 11 ∷ [])) 12 0  -- a request above the highest
+    ∷ token (sampleToken 10 5 (Member 7) 0 (0 ∷ [])) 12 0  -- a request 0
     -- the buffer
-    ∷ writes (tokenWritten (aToken 0 0 Nobody 0 []) (replicate 29 0)) 1  -- one byte short
-    ∷ writes (tokenWritten (aToken 0 1 Nobody 0 []) []) 12  -- 12 goes before 1
+    ∷ writes (tokenWritten (sampleToken 0 0 Nobody 0 []) (replicate 29 0)) 1  -- one byte short
+    ∷ writes (tokenWritten (sampleToken 0 1 Nobody 0 []) []) 12  -- 12 goes before 1
     -- any bytes
     ∷ reads firstToken 0
     ∷ reads [] 10

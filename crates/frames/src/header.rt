@@ -45,7 +45,7 @@ pub fn header_follows(h: Header) -> bool
 
 // The header of a frame of `size` bytes in all.
 pub fn put_header(out: &mut [u8], size: usize, kind: u16, h: Header)
-    requires { ⌜ (headerSize ≤ length (now out)) × (lengthSize ≤ size) × (size < 65536) ⌝ }
+    requires { ⌜ (headerSize ≤ length (now out)) × (lengthSize ≤ size) × (size ≤ mostFramed) ⌝ }
     ensures { λ _. ⌜ now (out .exit) ≡ sets (now (out .entry)) 0 (headerBytes size kind h) ⌝ }
 {
     words::put_u16(out, layout::LENGTH_AT, (size - layout::LENGTH_SIZE) as u16);

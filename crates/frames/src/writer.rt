@@ -3,7 +3,7 @@ ghost use mathlib.Core.Path.{_≡_};
 ghost use Prim.Native.Nat.{_≤_, _<_};
 ghost use lib.ListN.{length};
 ghost use lib.Seq.{sets};
-ghost use Rattle.frames.specs.Layout.{contentAt, requestsAt, mostRequests};
+ghost use Rattle.frames.specs.Layout.{mostFramed, contentAt, requestsAt, mostRequests};
 ghost use Rattle.frames.specs.Message.{messageFixed};
 ghost use Rattle.frames.specs.Token.{tokenFixed};
 ghost use Rattle.frames.specs.Write.{outcomeOf, messageWritten, tokenWritten};
@@ -23,7 +23,7 @@ pub enum Written {
 
 // The bytes before the content, of a frame of `size` bytes in all.
 fn put_message_fixed(out: &mut [u8], m: Message, size: usize)
-    requires { ⌜ (contentAt ≤ length (now out)) × (contentAt ≤ size) × (size < 65536) ⌝ }
+    requires { ⌜ (contentAt ≤ length (now out)) × (contentAt ≤ size) × (size ≤ mostFramed) ⌝ }
     ensures { λ _. ⌜ now (out .exit) ≡ sets (now (out .entry)) 0 (messageFixed m size) ⌝ }
 {
     header::put_header(out, size, layout::MESSAGE_KIND, m.header);
