@@ -12,7 +12,7 @@ use Rattle.frames.specs.Layout.{kindAt, messageKind, mostContent, tokenKind, mo
 use Rattle.frames.specs.Message.{messageOf, contentOf, messageFollows}
 use Rattle.frames.specs.Token.{tokenOf, tokenFollows}
 use Rattle.frames.specs.Refusal.{refusalNumber}
-use Rattle.frames.specs.Read.{lengthExact, messageReads, tokenReads, readMessage, readToken, readKind, readOf, aMessage, aToken, refused}
+use Rattle.frames.specs.Read.{lengthExact, messageReads, tokenReads, readMessage, readToken, byKind, readOf, aMessage, aToken, refused}
 use Rattle.frames.proofs.Facts.{part, message-facts, token-facts}
 use Rattle.frames.specs.declared.message.Message.{Message}
 use Rattle.frames.specs.declared.refusal.Refusal.the-variants.{WrongLength, OtherKind, Malformed}
@@ -103,7 +103,7 @@ short-token s =
     (λ (e : tokenReads s ≡ true). length-token t ((token-facts t (part e (λ (f : tokenFollows t ≡ false). simp (f, and-false)))) .requests .few))
     (length-refusal (refusalNumber Malformed))
 
-short-kind : (s : List ℕ) → Short (contentOf s) (readKind (wordAt 2 s kindAt) s)
+short-kind : (s : List ℕ) → Short (contentOf s) (byKind (wordAt 2 s kindAt) (readMessage s) (readToken s) (refused OtherKind))
 short-kind s =
     let kind = wordAt 2 s kindAt in
     branch (eqb kind messageKind) (contentOf s) (readMessage s) (cond (eqb kind tokenKind) (readToken s) (refused OtherKind))
@@ -112,4 +112,4 @@ short-kind s =
 
 pub line-short : (s : List ℕ) → length (lineOf s) ≤ longestLine
 unfolding lineOf readOf
-line-short s = branch (lengthExact s) (contentOf s) (readKind (wordAt 2 s kindAt) s) (refused WrongLength) (λ e. short-kind s) (length-refusal (refusalNumber WrongLength))
+line-short s = branch (lengthExact s) (contentOf s) (byKind (wordAt 2 s kindAt) (readMessage s) (readToken s) (refused OtherKind)) (refused WrongLength) (λ e. short-kind s) (length-refusal (refusalNumber WrongLength))

@@ -1,20 +1,23 @@
 -- The reader's definition at each way out of its code.
-use Prim.Native.Nat.{ℕ, _+_, _<_, _≤_}
+use Prim.Native.Nat.{ℕ, _<_, _≤_}
 use mathlib.Core.Path.{_≡_, refl, sym, ap, _∙_}
-use mathlib.Core.Bool.{Bool, true, false, _||_, cond}
+use mathlib.Core.Bool.{Bool, true, false, cond}
 use mathlib.Core.List.{List}
 use borrow.Author.Tests.{le-leb, lt-leb, eq-eqb, ne-eqb}
+use native.Mathlib.Omega.{arith}
 use lib.ListN.{length}
 use lib.Dec.{eqb}
 use Rattle.words.specs.Word.{wordAt}
-use Rattle.frames.specs.Layout.{lengthAt, lengthSize, kindAt, headerSize, messageKind, configurationAt, contentAt, tokenKind, requestsAt, mostRequests, tokenSize}
+use Rattle.frames.specs.Layout.{kindAt, headerSize, messageKind, configurationAt, contentAt, tokenKind, requestsAt, mostRequests, tokenSize}
+use Rattle.frames.specs.Header.{ownSize, framedSize}
 use Rattle.frames.specs.Message.{configuration, messageOf, contentOf, messageFollows}
 use Rattle.frames.specs.Token.{requestCount, tokenOf, tokenFollows}
-use Rattle.frames.specs.Read.{answerNumber, refused, aMessage, aToken, lengthExact, messageReads, tokenReads, readMessage, readToken, readKind, readOf, readNumber}
+use Rattle.frames.specs.Read.{answerNumber, refused, aMessage, aToken, lengthExact, messageReads, tokenReads, readMessage, readToken, byKind, readOf, readNumber}
 use Rattle.frames.specs.declared.reader.Reading.{Reading}
 use Rattle.frames.specs.declared.message.Message.{Message}
 use Rattle.frames.specs.declared.token.Token.{Token}
 use Rattle.frames.specs.declared.refusal.Refusal.the-variants.{WrongLength, OtherKind, Malformed}
+use Rattle.frames.proofs.Sizes.{framed-own}
 
 -- ---- question 12 of a message
 
@@ -70,11 +73,14 @@ module _ (s : List ℕ) where
   unfolding readOf
   read-short h = simp (lt-leb _ _ h)
 
-  pub read-inexact : headerSize ≤ length s → (length s ≡ lengthSize + wordAt 2 s lengthAt → ⊥) → refused WrongLength ≡ readOf s
+  pub read-inexact : (size : ℕ) → headerSize ≤ length s → size ≡ framedSize s → (length s ≡ size → ⊥) → refused WrongLength ≡ readOf s
   unfolding readOf
-  read-inexact h ne = simp (le-leb _ _ h, ne-eqb _ _ ne)
+  read-inexact size h e ne = simp (le-leb _ _ h, ne-eqb (length s) (ownSize s) (λ f. ne (f ∙ sym (e ∙ framed-own s (omega arith)))))
 
-  module _ (long : headerSize ≤ length s) (exact : length s ≡ lengthSize + wordAt 2 s lengthAt) where
+  pub read-exact : (size : ℕ) → headerSize ≤ length s → size ≡ framedSize s → length s ≡ size → length s ≡ ownSize s
+  read-exact size h e f = f ∙ e ∙ framed-own s (omega arith)
+
+  module _ (long : headerSize ≤ length s) (exact : length s ≡ ownSize s) where
     pub read-as-message : wordAt 2 s kindAt ≡ messageKind → readMessage s ≡ readOf s
     unfolding readOf
     read-as-message k = simp (le-leb _ _ long, eq-eqb _ _ exact, eq-eqb _ _ k)
@@ -93,13 +99,14 @@ numbered-cond : (b : Bool) (x y : Reading) (m n : ℕ) → answerNumber (x .answ
 numbered-cond true x y m n e f = e
 numbered-cond false x y m n e f = f
 
-kind-numbered : (message token message-reads token-reads : Bool) (x y : Reading)
-    → answerNumber (x .answer) ≡ cond message-reads 0 12
-    → answerNumber (y .answer) ≡ cond token-reads 0 12
-    → answerNumber ((cond message x (cond token y (refused OtherKind))) .answer) ≡ cond (message || token) (cond (cond message message-reads token-reads) 0 12) 11
-kind-numbered true token message-reads token-reads x y e f = e
-kind-numbered false true message-reads token-reads x y e f = f
-kind-numbered false false message-reads token-reads x y e f = refl
+kind-numbered : (message token : Bool) (x y z : Reading) (k m n : ℕ)
+    → answerNumber (x .answer) ≡ k
+    → answerNumber (y .answer) ≡ m
+    → answerNumber (z .answer) ≡ n
+    → answerNumber ((cond message x (cond token y z)) .answer) ≡ cond message k (cond token m n)
+kind-numbered true token x y z k m n e f g = e
+kind-numbered false true x y z k m n e f g = f
+kind-numbered false false x y z k m n e f g = g
 
 read-numbered : (s : List ℕ) → answerNumber (readOf s .answer) ≡ readNumber s
 unfolding readOf readNumber readMessage readToken
@@ -107,7 +114,8 @@ read-numbered s =
     let kind = wordAt 2 s kindAt in
     let message = numbered-cond (messageReads s) (aMessage (messageOf s)) (refused Malformed) 0 12 refl refl in
     let token = numbered-cond (tokenReads s) (aToken (tokenOf s)) (refused Malformed) 0 12 refl refl in
-    numbered-cond (lengthExact s) (readKind kind s) (refused WrongLength) _ 10 (kind-numbered (eqb kind messageKind) (eqb kind tokenKind) (messageReads s) (tokenReads s) (readMessage s) (readToken s) message token) refl
+    let by-kind = kind-numbered (eqb kind messageKind) (eqb kind tokenKind) (readMessage s) (readToken s) (refused OtherKind) _ _ 11 message token refl in
+    numbered-cond (lengthExact s) (byKind kind (readMessage s) (readToken s) (refused OtherKind)) (refused WrongLength) _ 10 by-kind refl
 
 -- so what reads as the definition says answers its number
 pub read-as : (s : List ℕ) (r : Reading) → r ≡ readOf s → (r ≡ readOf s) × (answerNumber (r .answer) ≡ readNumber s)

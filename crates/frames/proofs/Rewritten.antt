@@ -16,7 +16,7 @@ use Rattle.frames.specs.Layout.{lengthAt, lengthSize, kindAt, ringAt, re
 use Rattle.frames.specs.Header.{headerOf, headerBytes}
 use Rattle.frames.specs.Message.{configuration, messageOf, contentOf, messageFollows, messageFixed, messageBytes}
 use Rattle.frames.specs.Token.{blockerOf, blockerId, requestCount, requestsOf, tokenOf, tokenFollows, tokenFixed, tokenBytes}
-use Rattle.frames.specs.Read.{refused, aMessage, aToken, lengthExact, messageReads, tokenReads, readMessage, readToken, readKind, readOf}
+use Rattle.frames.specs.Read.{refused, aMessage, aToken, lengthExact, messageReads, tokenReads, readMessage, readToken, byKind, readOf}
 use Rattle.frames.specs.RoundTrip.{MessageRewritten, TokenRewritten}
 use Rattle.frames.specs.declared.refusal.Refusal.{Refusal}
 use Rattle.frames.specs.declared.refusal.Refusal.the-variants.{WrongLength, OtherKind, Malformed}
@@ -61,6 +61,17 @@ exact-facts s e =
       size = eqb-true (length s) (lengthSize + wordAt 2 s lengthAt) (part e (λ (f : eqb (length s) (lengthSize + wordAt 2 s lengthAt) ≡ false). simp (f, and-false)));
     }
 
+-- the way in, for whatever is read but a refusal
+record Entered (s : List ℕ) (z : Reading) : Type 0 where
+  exact : Exact s
+  by-kind : byKind (wordAt 2 s kindAt) (readMessage s) (readToken s) (refused OtherKind) ≡ z
+
+entered : (s : List ℕ) (z : Reading) → ((why : Refusal) → refused why ≡ z → ⊥) → readOf s ≡ z → Entered s z
+unfolding readOf
+entered s z read e =
+    let first = cond-first (lengthExact s) (byKind (wordAt 2 s kindAt) (readMessage s) (readToken s) (refused OtherKind)) (refused WrongLength) z e (read WrongLength) in
+    record { exact = exact-facts s (first .0); by-kind = first .1 }
+
 -- ---- the header
 
 header-there : (s : List ℕ) (size kind : ℕ)
@@ -88,18 +99,18 @@ record ReadsMessage (s : List ℕ) (m : Message) : Type 0 where
   values : messageOf s ≡ m
 
 message-read : (s : List ℕ) (m : Message) → readOf s ≡ aMessage m → ReadsMessage s m
-unfolding readOf readMessage readToken which
+unfolding readMessage readToken which
 message-read s m e =
     let kind = wordAt 2 s kindAt in
-    let never-refused : (why : Refusal) → refused why ≡ aMessage m → ⊥ = λ why f. omega (arith, apart _ _ f) in
-    let never-token : readToken s ≡ aMessage m → ⊥ = cond-neither (tokenReads s) (aToken (tokenOf s)) (refused Malformed) (aMessage m) (λ f. omega (arith, apart _ _ f)) (never-refused Malformed) in
-    let never-other = cond-neither (eqb kind tokenKind) (readToken s) (refused OtherKind) (aMessage m) never-token (never-refused OtherKind) in
-    let sized = cond-first (lengthExact s) (readKind kind s) (refused WrongLength) (aMessage m) e (never-refused WrongLength) in
-    let kinded = cond-first (eqb kind messageKind) (readMessage s) (cond (eqb kind tokenKind) (readToken s) (refused OtherKind)) (aMessage m) (sized .1) never-other in
-    let reads = cond-first (messageReads s) (aMessage (messageOf s)) (refused Malformed) (aMessage m) (kinded .1) (never-refused Malformed) in
+    let read : (why : Refusal) → refused why ≡ aMessage m → ⊥ = λ why f. omega (arith, apart _ _ f) in
+    let way = entered s (aMessage m) read e in
+    let no-token : readToken s ≡ aMessage m → ⊥ = cond-neither (tokenReads s) (aToken (tokenOf s)) (refused Malformed) (aMessage m) (λ f. omega (arith, apart _ _ f)) (read Malformed) in
+    let no-other = cond-neither (eqb kind tokenKind) (readToken s) (refused OtherKind) (aMessage m) no-token (read OtherKind) in
+    let kinded = cond-first (eqb kind messageKind) (readMessage s) (cond (eqb kind tokenKind) (readToken s) (refused OtherKind)) (aMessage m) (way .by-kind) no-other in
+    let reads = cond-first (messageReads s) (aMessage (messageOf s)) (refused Malformed) (aMessage m) (kinded .1) (read Malformed) in
     let answer : IsMessage (messageOf s) ≡ IsMessage m = ap (λ (r : Reading). r .answer) (reads .1) in
     record {
-      exact = exact-facts s (sized .0);
+      exact = way .exact;
       kind = eqb-true kind messageKind (kinded .0);
       long = leb-true contentAt (length s) (part (reads .0) (λ (f : leb contentAt (length s) ≡ false). rw f));
       configured = eqb-true (wordAt 4 s configurationAt) configuration (part (reads .0) (λ (f : eqb (wordAt 4 s configurationAt) configuration ≡ false). simp (f, and-false)));
@@ -139,17 +150,17 @@ record ReadsToken (s : List ℕ) (t : Token) : Type 0 where
   values : tokenOf s ≡ t
 
 token-read : (s : List ℕ) (t : Token) → readOf s ≡ aToken t → ReadsToken s t
-unfolding readOf readMessage readToken which
+unfolding readMessage readToken which
 token-read s t e =
     let kind = wordAt 2 s kindAt in
-    let never-refused : (why : Refusal) → refused why ≡ aToken t → ⊥ = λ why f. omega (arith, apart _ _ f) in
-    let never-message : readMessage s ≡ aToken t → ⊥ = cond-neither (messageReads s) (aMessage (messageOf s)) (refused Malformed) (aToken t) (λ f. omega (arith, apart _ _ f)) (never-refused Malformed) in
-    let sized = cond-first (lengthExact s) (readKind kind s) (refused WrongLength) (aToken t) e (never-refused WrongLength) in
-    let other = cond-second (eqb kind messageKind) (readMessage s) (cond (eqb kind tokenKind) (readToken s) (refused OtherKind)) (aToken t) (sized .1) never-message in
-    let kinded = cond-first (eqb kind tokenKind) (readToken s) (refused OtherKind) (aToken t) (other .1) (never-refused OtherKind) in
-    let reads = cond-first (tokenReads s) (aToken (tokenOf s)) (refused Malformed) (aToken t) (kinded .1) (never-refused Malformed) in
+    let read : (why : Refusal) → refused why ≡ aToken t → ⊥ = λ why f. omega (arith, apart _ _ f) in
+    let way = entered s (aToken t) read e in
+    let no-message : readMessage s ≡ aToken t → ⊥ = cond-neither (messageReads s) (aMessage (messageOf s)) (refused Malformed) (aToken t) (λ f. omega (arith, apart _ _ f)) (read Malformed) in
+    let other = cond-second (eqb kind messageKind) (readMessage s) (cond (eqb kind tokenKind) (readToken s) (refused OtherKind)) (aToken t) (way .by-kind) no-message in
+    let kinded = cond-first (eqb kind tokenKind) (readToken s) (refused OtherKind) (aToken t) (other .1) (read OtherKind) in
+    let reads = cond-first (tokenReads s) (aToken (tokenOf s)) (refused Malformed) (aToken t) (kinded .1) (read Malformed) in
     record {
-      exact = exact-facts s (sized .0);
+      exact = way .exact;
       kind = eqb-true kind tokenKind (kinded .0);
       size = eqb-true (length s) (tokenSize (requestCount s)) (part (reads .0) (λ (f : eqb (length s) (tokenSize (requestCount s)) ≡ false). simp (f, and-false)));
       follows = part (reads .0) (λ (f : tokenFollows (tokenOf s) ≡ false). simp (f, and-false));

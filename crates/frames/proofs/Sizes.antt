@@ -3,7 +3,7 @@ use Prim.Native.Nat.{ℕ, _+_, _<_, _≤_}
 use mathlib.Core.Path.{_≡_, refl}
 use mathlib.Core.Bool.{Bool, true, false, cond}
 use mathlib.Core.List.{List}
-use borrow.Author.Tests.{leb-false}
+use borrow.Author.Tests.{leb-false, le-leb}
 use native.Mathlib.Omega.{arith}
 use lib.Dec.{leb}
 use Rattle.words.specs.Word.{wordAt}
@@ -12,7 +12,7 @@ use lib.Seq.{length-take-le}
 use Rattle.words.proofs.WordLaws.{length-word}
 use Rattle.words.proofs.RunLaws.{length-words-bytes}
 use Rattle.frames.specs.Layout.{lengthAt, lengthSize, headerSize, contentAt, messageSize, requestsAt, tokenSize}
-use Rattle.frames.specs.Header.{framedSize, headerBytes}
+use Rattle.frames.specs.Header.{ownSize, framedSize, headerBytes}
 use Rattle.frames.specs.Message.{messageFixed, messageBytes}
 use Rattle.frames.specs.Token.{tokenFixed, tokenBytes}
 use Rattle.frames.specs.declared.header.Header.{Header}
@@ -46,3 +46,7 @@ none-framed false n e = refl
 pub framed-none : (s : List ℕ) → framedSize s ≡ 0 → length s < lengthSize
 unfolding framedSize
 framed-none s e = leb-false lengthSize (length s) (none-framed (leb lengthSize (length s)) (wordAt 2 s lengthAt) e)
+
+pub framed-own : (s : List ℕ) → lengthSize ≤ length s → framedSize s ≡ ownSize s
+unfolding framedSize
+framed-own s h = rw (le-leb lengthSize (length s) h)

@@ -1,6 +1,6 @@
 -- Reading a frame: any list of bytes gives values, or the first of questions 10 to 12 that fails. [document 01, Questions at the door]
 use Prim.Native.Nat.{ℕ}
-use mathlib.Core.Bool.{Bool, _&&_, _||_, cond}
+use mathlib.Core.Bool.{Bool, _&&_, cond}
 use mathlib.Core.List.{List}
 use lib.ListN.{length, replicate}
 use lib.Dec.{leb, eqb}
@@ -77,32 +77,20 @@ readMessage s = cond (messageReads s) (aMessage (messageOf s)) (refused Malforme
 unfoldable pub readToken : List ℕ → Reading
 readToken s = cond (tokenReads s) (aToken (tokenOf s)) (refused Malformed)
 
--- 11. Is the kind 1 or 2? The one place that goes by the kind
-abbrev pub readKind : ℕ → List ℕ → Reading
-readKind kind s =
-    cond (eqb kind messageKind) (readMessage s)
-    (cond (eqb kind tokenKind) (readToken s)
-    (refused OtherKind))
+-- 11. Is the kind 1 or 2? The one place that goes by the kind: what holds of a message, of a token, of any other
+abbrev pub byKind : {A : Type 0} → ℕ → A → A → A → A
+byKind kind message token other = cond (eqb kind messageKind) message (cond (eqb kind tokenKind) token other)
 
 -- the values, or the first question that is answered 'no'
 unfoldable pub readOf : List ℕ → Reading
-readOf s = cond (lengthExact s) (readKind (wordAt 2 s kindAt) s) (refused WrongLength)
+readOf s =
+    cond (lengthExact s)
+    (byKind (wordAt 2 s kindAt) (readMessage s) (readToken s) (refused OtherKind))
+    (refused WrongLength)
 
--- ---- the same in document 01's numbers: the first question that is answered 'no', or 0
-
--- 11. Is the kind 1 or 2?
-abbrev pub kindKnown : ℕ → Bool
-kindKnown kind = eqb kind messageKind || eqb kind tokenKind
-
--- 12. Does all else follow the layout?
-abbrev pub layoutFollows : ℕ → List ℕ → Bool
-layoutFollows kind s = cond (eqb kind messageKind) (messageReads s) (tokenReads s)
-
+-- the same in document 01's numbers: the first question that is answered 'no', or 0
 unfoldable pub readNumber : List ℕ → ℕ
 readNumber s =
     cond (lengthExact s)
-    (cond (kindKnown (wordAt 2 s kindAt))
-    (cond (layoutFollows (wordAt 2 s kindAt) s) 0
-    12)
-    11)
+    (byKind (wordAt 2 s kindAt) (cond (messageReads s) 0 12) (cond (tokenReads s) 0 12) 11)
     10

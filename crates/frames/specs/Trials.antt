@@ -2,7 +2,7 @@
 use Prim.Native.Nat.{ℕ, zero, suc, _-_}
 use mathlib.Core.Bool.{Bool, true, false, _&&_}
 use mathlib.Core.List.{List, [], _∷_, _++_}
-use lib.ListN.{length, take, replicate}
+use lib.ListN.{length, set, take, replicate}
 use lib.Dec.{eqb}
 use Rattle.frames.specs.Layout.{mostRequests}
 use Rattle.frames.specs.Message.{messageBytes}
@@ -136,6 +136,16 @@ table =
     ∷ reads (0x07 ∷ replicate 8 0x00) 10  -- under 10 bytes, though its length is exact
     ∷ reads (take 29 firstToken) 10  -- a byte short
     ∷ reads (firstToken ++ (0x00 ∷ [])) 10  -- a byte too many
+    -- one byte of the first token, or of a message with no content, set to another
+    ∷ reads (set firstToken 0 0x1D) 10  -- the length field
+    ∷ reads (set firstToken 2 0x03) 11  -- the kind
+    ∷ reads (set firstToken 4 0x00) 12  -- ring number 0
+    ∷ reads (set firstToken 8 0x00) 12  -- representative 0
+    ∷ reads (set firstToken 10 0x00) 12  -- addressee 0
+    ∷ reads (set firstToken 12 0x00) 12  -- token number 0
+    ∷ reads (set (messageBytes (sampleMessage 1 0) []) 10 0x00) 12  -- sender 0
+    ∷ reads (set (messageBytes (sampleMessage 1 0) []) 19 0x01) 12  -- configuration not zero
+    -- headers alone
     ∷ reads (0x08 ∷ 0x00 ∷ 0x00 ∷ replicate 7 0x00) 11  -- kind 0
     ∷ reads (0x08 ∷ 0x00 ∷ 0x03 ∷ replicate 7 0x00) 11  -- kind 3
     ∷ reads (0x08 ∷ 0x00 ∷ 0x01 ∷ replicate 7 0x00) 12  -- a message of 10 bytes

@@ -1,6 +1,6 @@
 // What every frame begins with: length, kind, ring number, representative's id.
 ghost use mathlib.Core.Path.{_≡_};
-ghost use Prim.Native.Nat.{_≤_, _<_};
+ghost use Prim.Native.Nat.{_≤_};
 ghost use lib.ListN.{length};
 ghost use lib.Seq.{sets};
 ghost use Rattle.frames.specs.Header.{framedSize, headerOf, headerFollows, headerBytes};

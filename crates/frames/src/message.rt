@@ -31,7 +31,8 @@ pub fn message_of(frame: &[u8]) -> Message
 }
 
 // The content of a message frame: the part of its bytes from the content's place to the end, and
-// nothing of a frame that has no such place. Ruled out: a part that starts a byte late; a short frame's own bytes.
+// nothing of a frame that has no such place. Ruled out: a part that starts a byte late; a short
+// frame's own bytes.
 pub fn content(frame: &[u8]) -> &[u8]
     ensures { λ r. ⌜ now r ≡ contentOf (now (frame .entry)) ⌝ }
 {

@@ -1,6 +1,7 @@
 // The reader.
 ghost use mathlib.Core.Path.{_≡_};
 ghost use Rattle.frames.specs.Read.{readOf, readNumber, readMessage, readToken, blankToken, refused, answerNumber};
+use crate::header;
 use crate::header::Header;
 use crate::layout;
 use crate::message;
@@ -106,8 +107,7 @@ pub fn read(frame: &[u8]) -> Reading
     if frame.len() < layout::HEADER_SIZE {
         return refuse(Refusal::WrongLength);
     }
-    let after = words::get_u16(frame, layout::LENGTH_AT);
-    if frame.len() != layout::LENGTH_SIZE + after as usize {
+    if frame.len() != header::framed_size(frame) {
         return refuse(Refusal::WrongLength);
     }
     let kind = words::get_u16(frame, layout::KIND_AT);

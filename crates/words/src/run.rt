@@ -1,4 +1,5 @@
-// Runs of words, read from a byte slice into numbers or stored from numbers into it.
+// Runs of words, read from a byte slice into numbers or stored from numbers into it. Ruled out: one
+// word too few; a place past the run changed.
 ghost use mathlib.Core.Path.{_≡_};
 ghost use mathlib.Core.List.{_++_};
 ghost use Prim.Native.Nat.{_+_, _*_, _≤_};

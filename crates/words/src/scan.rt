@@ -1,4 +1,5 @@
-// Tests of a whole slice, at each width that the crates above need.
+// Tests of a whole slice, at each width that the crates above need. Ruled out: the last element not
+// looked at; a bound itself refused.
 ghost use mathlib.Core.Path.{_≡_};
 ghost use Rattle.words.specs.Scan.{allWithin, allZero, lacks, distinct};
 

@@ -1,5 +1,6 @@
 // One word, read from a byte slice or stored into it. A word of two bytes is two of one byte, and a
-// word of four is two of two: one law over the width serves all.
+// word of four is two of two: one law over the width serves all. Ruled out: the highest byte first;
+// a neighbouring byte changed.
 ghost use mathlib.Core.Path.{_≡_};
 ghost use Prim.Native.Nat.{_+_, _≤_, _<_};
 ghost use lib.ListN.{length};
