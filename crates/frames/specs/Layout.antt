@@ -57,6 +57,9 @@ mostContent = 64
 abbrev pub messageSize : ℕ → ℕ
 messageSize n = contentAt + n
 
+abbrev pub longestMessage : ℕ
+longestMessage = 86
+
 -- ---- kind 2, token
 
 abbrev pub tokenKind : ℕ
@@ -95,3 +98,10 @@ mostRequests = 16
 -- of a token with n requests
 abbrev pub tokenSize : ℕ → ℕ
 tokenSize n = requestsAt + 4 * n
+
+-- without requests, as a ring's first token
+abbrev pub shortestToken : ℕ
+shortestToken = 30
+
+abbrev pub longestToken : ℕ
+longestToken = 94

@@ -34,6 +34,8 @@ pub const MOST_SERVICE: u16 = 1;
 
 pub const MOST_CONTENT: usize = 64;
 
+pub const LONGEST_MESSAGE: usize = 86;
+
 // Kind 2, token.
 pub const TOKEN_KIND: u16 = 2;
 
@@ -56,6 +58,11 @@ pub const REQUESTS_AT: usize = 30;
 pub const MOST_ROUND: u16 = 128;
 
 pub const MOST_REQUESTS: usize = 16;
+
+// A token without requests, as a ring's first, and one with all.
+pub const SHORTEST_TOKEN: usize = 30;
+
+pub const LONGEST_TOKEN: usize = 94;
 
 // The size of a token with n requests.
 pub fn token_size(n: u16) -> usize

@@ -10,14 +10,16 @@ pub struct TokenNumber(pub u32);
 
 pub const MOST_NUMBER: u32 = 2000000000;
 
-const MOST_ID: u16 = 65535;
+pub const MOST_ID: u16 = 65535;
 
+// A ring, message or token number. Ruled out: 0 taken; 2,000,000,001 taken.
 pub fn is_number(n: u32) -> bool
     ensures { λ r. ⌜ r ≡ isNumber n ⌝ }
 {
     (1 <= n) & (n <= MOST_NUMBER)
 }
 
+// A member's id. Ruled out: 0 taken; 65,535 refused.
 pub fn is_id(id: u16) -> bool
     ensures { λ r. ⌜ r ≡ isId id ⌝ }
 {

@@ -1,0 +1,100 @@
+-- The messages that a station holds. [document 01, The station record; the paper's received messages]
+use Prim.Native.Nat.{ℕ, zero, suc, _+_, _*_, _-_, _%_}
+use mathlib.Core.Bool.{Bool, not, _&&_, cond}
+use mathlib.Core.List.{List}
+use mathlib.Core.Option.{Option, none, some}
+use lib.ListN.{length, getD, set, take, drop, replicate}
+use lib.Dec.{leb, ltb, eqb}
+use lib.Seq.{sets}
+use Rattle.frames.specs.Layout.{mostContent}
+use Rattle.record.specs.Size.{mostHeld}
+use Rattle.record.specs.declared.log.Held.{Held}
+use Rattle.record.specs.declared.log.Log.{Log}
+
+-- a held message, its number apart
+pub record Entry : Type 0 where
+  pub sender : ℕ
+  pub service : ℕ
+  pub content : List ℕ
+
+-- a held message's place follows from its number alone
+abbrev pub placeOf : ℕ → ℕ
+placeOf number = number % mostHeld
+
+-- a place is in use where its sender is not 0
+abbrev pub inUse : Held → ℕ → Bool
+inUse h place = not (eqb (getD (h .senders) place 0) 0)
+
+abbrev pub entryAt : Held → ℕ → Entry
+entryAt h place =
+    record {
+      sender = getD (h .senders) place 0;
+      service = getD (h .services) place 0;
+      content = take (getD (h .lengths) place 0) (drop (mostContent * place) (h .contents));
+    }
+
+-- numbered above the safe mark and at most safe mark + 32
+abbrev pub inWindow : Log → ℕ → Bool
+inWindow l number = ltb (l .safe .0) number && leb number (l .safe .0 + mostHeld)
+
+-- is this number held?
+unfoldable pub holds : Log → ℕ → Bool
+holds l number = inWindow l number && inUse (l .held) (placeOf number)
+
+-- what is held under a number
+unfoldable pub heldAt : Log → ℕ → Option Entry
+heldAt l number = cond (holds l number) (some (entryAt (l .held) (placeOf number))) none
+
+-- ---- a message is held under a number
+
+unfoldable pub heldWith : Held → ℕ → Entry → Held
+heldWith h place e =
+    record {
+      senders = set (h .senders) place (e .sender);
+      services = set (h .services) place (e .service);
+      lengths = set (h .lengths) place (length (e .content));
+      contents = sets (h .contents) (mostContent * place) (e .content);
+    }
+
+abbrev pub withHeld : Log → Held → Log
+withHeld l h =
+    record {
+      ring = l .ring;
+      count = l .count;
+      members = l .members;
+      level = l .level;
+      safe = l .safe;
+      delivered = l .delivered;
+      held = h;
+    }
+
+abbrev pub stored : Log → ℕ → Entry → Log
+stored l number e = withHeld l (heldWith (l .held) (placeOf number) e)
+
+-- ---- everything up to a new safe mark is let go
+
+unfoldable pub cleared : Held → ℕ → Held
+cleared h place =
+    record {
+      senders = set (h .senders) place 0;
+      services = set (h .services) place 0;
+      lengths = set (h .lengths) place 0;
+      contents = sets (h .contents) (mostContent * place) (replicate mostContent 0);
+    }
+
+-- the places of n numbers, from `first` on, are cleared
+unfoldable pub clearedFrom : Held → ℕ → ℕ → Held
+clearedFrom h first zero = h
+clearedFrom h first (suc n) = clearedFrom (cleared h (placeOf first)) (suc first) n
+
+unfoldable pub letGo : Log → ℕ → Log
+letGo l safe =
+    record {
+      ring = l .ring;
+      count = l .count;
+      members = l .members;
+      level = l .level;
+      safe = record { 0 = safe };
+      delivered = l .delivered;
+      held = clearedFrom (l .held) (suc (l .safe .0)) (safe - l .safe .0);
+    }

@@ -1,0 +1,13 @@
+pub mod Size
+pub mod Layout
+pub mod Count
+pub mod Held
+pub mod Posts
+pub mod Turn
+pub mod Members
+pub mod Ring
+pub mod Whole
+pub mod Fresh
+pub mod Bytes
+pub mod Lent
+pub mod RoundTrip

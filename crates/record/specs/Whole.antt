@@ -1,0 +1,139 @@
+-- When a record is whole: one definition for each clause of document 01's paragraph, in its order. [document 01, The station record]
+-- A list has any length, so the ranges ask for each array's own length too.
+use Prim.Native.Nat.{ℕ, suc, _+_, _*_, _-_}
+use mathlib.Core.Bool.{Bool, not, _&&_, _||_}
+use mathlib.Core.List.{List}
+use lib.ListN.{length, getD, take, drop}
+use lib.Dec.{leb, eqb}
+use Rattle.words.specs.Scan.{every, allWithin, allZero}
+use Rattle.frames.specs.Number.{mostNumber, mostId}
+use Rattle.frames.specs.Layout.{mostService, mostContent, longestToken}
+use Rattle.record.specs.Size.{mostMembers, mostHeld, mostPosts, mostBroadcasts, mostStall, heldContents, postContents}
+use Rattle.record.specs.Count.{everyFrom}
+use Rattle.record.specs.Held.{placeOf, inUse, holds}
+use Rattle.record.specs.Turn.{hasLeave, remembered}
+use Rattle.record.specs.Members.{isMember, foundable}
+use Rattle.record.specs.Ring.{current, ids, tokenPasses}
+use Rattle.record.specs.declared.log.Held.{Held}
+use Rattle.record.specs.declared.log.Log.{Log}
+use Rattle.record.specs.declared.turn.Turn.{Turn}
+use Rattle.record.specs.declared.posts.Posts.{Posts}
+use Rattle.record.specs.declared.Record.{Record}
+
+-- ---- fields in range
+
+unfoldable pub heldInRange : Held → Bool
+heldInRange h =
+    eqb (length (h .senders)) mostHeld
+    && eqb (length (h .services)) mostHeld
+    && eqb (length (h .lengths)) mostHeld
+    && eqb (length (h .contents)) heldContents
+    && allWithin 0 mostId (h .senders)
+    && allWithin 0 mostService (h .services)
+    && allWithin 0 mostContent (h .lengths)
+
+-- no held number is above 2,000,000,000
+unfoldable pub numbersInRange : Log → Bool
+numbersInRange l = everyFrom (λ n. leb n mostNumber || not (inUse (l .held) (placeOf n))) (suc (l .safe .0)) mostHeld
+
+unfoldable pub logInRange : Log → Bool
+logInRange l =
+    eqb (length (l .members)) mostMembers
+    && leb (l .count) mostMembers
+    && leb (l .level .0) mostNumber
+    && leb (l .safe .0) mostNumber
+    && leb (l .delivered .0) mostNumber
+    && heldInRange (l .held)
+    && numbersInRange l
+
+unfoldable pub turnInRange : Turn → Bool
+turnInRange t =
+    eqb (length (t .token)) longestToken
+    && leb (t .aru .0) mostNumber
+    && leb (t .earlier .0) mostNumber
+    && leb (t .number .0) mostNumber
+    && leb (t .broadcast) mostBroadcasts
+    && leb (t .stall) mostStall
+    && leb (t .size) longestToken
+
+unfoldable pub postsInRange : Posts → Bool
+postsInRange p =
+    eqb (length (p .services)) mostPosts
+    && eqb (length (p .lengths)) mostPosts
+    && eqb (length (p .contents)) postContents
+    && leb (p .count) mostPosts
+    && allWithin 0 mostService (p .services)
+    && allWithin 0 mostContent (p .lengths)
+
+unfoldable pub inRange : Record → Bool
+inRange r = leb (r .own) mostId && logInRange (r .log) && turnInRange (r .turn) && postsInRange (r .posts)
+
+-- ---- held senders members
+
+unfoldable pub sendersAreMembers : List ℕ → List ℕ → Bool
+sendersAreMembers members = every (λ x after. eqb x 0 || isMember members x)
+
+-- ---- a token that may be resent is of kind 2 and passes 10 to 14
+
+unfoldable pub leaveIsGood : ℕ → List ℕ → Turn → Bool
+leaveIsGood ring members t = not (hasLeave t) || tokenPasses ring members (remembered t)
+
+-- ---- founding questions 3 to 6 hold: `foundable`
+
+-- ---- safe mark ≤ delivered mark ≤ level
+
+unfoldable pub marksInOrder : Log → Bool
+marksInOrder l = leb (l .safe .0) (l .delivered .0) && leb (l .delivered .0) (l .level .0)
+
+-- ---- both aru ≤ level
+
+unfoldable pub arusReached : Turn → ℕ → Bool
+arusReached t level = leb (t .aru .0) level && leb (t .earlier .0) level
+
+-- ---- numbers from safe mark + 1 to level are held; level + 1 isn't
+
+unfoldable pub heldToLevel : Log → Bool
+heldToLevel l = everyFrom (holds l) (suc (l .safe .0)) (l .level .0 - l .safe .0)
+
+unfoldable pub nextNotHeld : Log → Bool
+nextNotHeld l = not (holds l (suc (l .level .0)))
+
+-- ---- a part not in use is zero
+
+-- contents of 64 bytes each: the bytes past each one's length
+unfoldable pub contentsPadded : List ℕ → List ℕ → Bool
+contentsPadded lengths contents =
+    everyFrom (λ place. allZero (take (mostContent - getD lengths place 0) (drop (mostContent * place + getD lengths place 0) contents))) 0 (length lengths)
+
+-- a free place's service and length; its content is then zero too
+unfoldable pub freePlacesZero : Held → Bool
+freePlacesZero h = everyFrom (λ place. inUse h place || (eqb (getD (h .services) place 0) 0 && eqb (getD (h .lengths) place 0) 0)) 0 mostHeld
+
+unfoldable pub logUnusedZero : Log → Bool
+logUnusedZero l = allZero (drop (l .count) (l .members)) && freePlacesZero (l .held) && contentsPadded (l .held .lengths) (l .held .contents)
+
+unfoldable pub postsUnusedZero : Posts → Bool
+postsUnusedZero p = allZero (drop (p .count) (p .services)) && allZero (drop (p .count) (p .lengths)) && contentsPadded (p .lengths) (p .contents)
+
+unfoldable pub unusedZero : Record → Bool
+unusedZero r = logUnusedZero (r .log) && postsUnusedZero (r .posts) && allZero (drop (r .turn .size) (r .turn .token))
+
+-- ---- whole. That a held message's place follows from its number alone needs no clause: no number is stored (`placeOf`)
+
+-- held senders members, a token that may be resent, founding questions
+unfoldable pub membersAgree : Record → Bool
+membersAgree r =
+    sendersAreMembers (ids (current r)) (current r .held .senders)
+    && leaveIsGood (current r .ring .0) (ids (current r)) (r .turn)
+    && foundable (ids (current r)) (r .own) (current r .ring .0)
+
+-- the marks' order, both aru, what is held and what isn't
+unfoldable pub marksAgree : Record → Bool
+marksAgree r =
+    marksInOrder (current r)
+    && arusReached (r .turn) (current r .level .0)
+    && heldToLevel (current r)
+    && nextNotHeld (current r)
+
+unfoldable pub whole : Record → Bool
+whole r = inRange r && membersAgree r && marksAgree r && unusedZero r

@@ -1,0 +1,58 @@
+// Where each field of the record stands, counted from the first byte of the part that it belongs to.
+pub const OWN_AT: usize = 0;
+
+pub const LOG_AT: usize = 2;
+
+pub const TURN_AT: usize = 2243;
+
+pub const POSTS_AT: usize = 2352;
+
+pub const RECORD_SIZE: usize = 3425;
+
+// The log.
+pub const RING_AT: usize = 0;
+
+pub const MEMBER_COUNT_AT: usize = 4;
+
+pub const MEMBERS_AT: usize = 5;
+
+pub const LEVEL_AT: usize = 21;
+
+pub const SAFE_AT: usize = 25;
+
+pub const DELIVERED_AT: usize = 29;
+
+pub const HELD_MESSAGES_AT: usize = 33;
+
+// The held messages.
+pub const SENDERS_AT: usize = 0;
+
+pub const HELD_SERVICES_AT: usize = 64;
+
+pub const HELD_LENGTHS_AT: usize = 128;
+
+pub const HELD_CONTENTS_AT: usize = 160;
+
+// The turn.
+pub const ARU_AT: usize = 0;
+
+pub const EARLIER_AT: usize = 4;
+
+pub const TOKEN_NUMBER_AT: usize = 8;
+
+pub const BROADCAST_AT: usize = 12;
+
+pub const STALL_AT: usize = 13;
+
+pub const TOKEN_SIZE_AT: usize = 14;
+
+pub const TOKEN_AT: usize = 15;
+
+// The waiting posts.
+pub const POST_COUNT_AT: usize = 0;
+
+pub const POST_SERVICES_AT: usize = 1;
+
+pub const POST_LENGTHS_AT: usize = 33;
+
+pub const POST_CONTENTS_AT: usize = 49;

@@ -1,0 +1,41 @@
+// The station record: what it holds, when it is whole, and its bytes. Nothing here knows a call.
+mod bytes;
+mod fresh;
+mod held_bytes;
+mod layout;
+mod log;
+mod log_bytes;
+mod members;
+mod posts;
+mod posts_bytes;
+mod range;
+mod ring;
+mod size;
+mod turn;
+mod turn_bytes;
+mod unused;
+mod whole;
+
+pub use bytes::decode;
+pub use bytes::encode;
+pub use whole::is_whole;
+pub use fresh::fresh_record;
+pub use layout::RECORD_SIZE;
+pub use log::Held;
+pub use log::Log;
+pub use members::ids_follow;
+pub use members::is_member;
+pub use members::members_counted;
+pub use posts::Posts;
+pub use posts::queue;
+pub use ring::representative_of;
+pub use size::MOST_MEMBERS;
+pub use size::MOST_POSTS;
+pub use turn::Turn;
+
+pub struct Record {
+    pub own: u16,
+    pub log: Log,
+    pub turn: Turn,
+    pub posts: Posts,
+}

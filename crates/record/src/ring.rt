@@ -1,0 +1,57 @@
+// Is it this ring's, and are they its members?
+ghost use mathlib.Core.Path.{_≡_};
+ghost use Rattle.record.specs.Members.{representative};
+ghost use Rattle.record.specs.Ring.{thisRing, blockerMember, tokenMembers, tokenPasses};
+use crate::members;
+use frames::Answer;
+use frames::Blocker;
+use frames::Header;
+use frames::Token;
+
+// The first in circulation order, or 0 of an empty list.
+pub fn representative_of(ids: &[u16]) -> u16
+    ensures { λ r. ⌜ r ≡ representative (now (ids .entry)) ⌝ }
+{
+    if ids.len() == 0 {
+        return 0;
+    }
+    ids[0]
+}
+
+// Question 13.
+pub fn this_ring(ring: u32, ids: &[u16], h: Header) -> bool
+    ensures { λ r. ⌜ r ≡ thisRing ring (now (ids .entry)) h ⌝ }
+{
+    (h.ring.0 == ring) & (h.representative == representative_of(ids))
+}
+
+fn blocker_member(ids: &[u16], b: Blocker) -> bool
+    ensures { λ r. ⌜ r ≡ blockerMember (now (ids .entry)) b ⌝ }
+{
+    match b {
+        Blocker::Nobody => true,
+        Blocker::Member(id) => members::is_member(ids, id),
+    }
+}
+
+// Question 14, of a token.
+pub fn token_members(ids: &[u16], t: Token) -> bool
+    ensures { λ r. ⌜ r ≡ tokenMembers (now (ids .entry)) t ⌝ }
+{
+    let blocker = t.blocker;
+    members::is_member(ids, t.addressee) & blocker_member(ids, blocker)
+}
+
+// Is it a token that passes questions 10 to 14?
+pub fn token_passes(ring: u32, ids: &[u16], frame: &[u8]) -> bool
+    ensures { λ r. ⌜ r ≡ tokenPasses ring (now (ids .entry)) (now (frame .entry)) ⌝ }
+{
+    let reading = frames::read(frame);
+    let token = reading.token;
+    let answer = reading.answer;
+    match answer {
+        Answer::Refused(_) => false,
+        Answer::IsMessage(_) => false,
+        Answer::IsToken => this_ring(ring, ids, token.header) & token_members(ids, token),
+    }
+}

@@ -1,0 +1,17 @@
+// How much a station keeps.
+pub const LEAST_MEMBERS: usize = 2;
+
+pub const MOST_MEMBERS: usize = 8;
+
+// Messages held at once.
+pub const MOST_HELD: usize = 32;
+
+// Posts waiting at once.
+pub const MOST_POSTS: usize = 16;
+
+// Broadcasts of one visit.
+pub const MOST_BROADCASTS: u8 = 16;
+
+pub const HELD_CONTENTS: usize = 2048;
+
+pub const POST_CONTENTS: usize = 1024;

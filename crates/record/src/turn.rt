@@ -1,0 +1,19 @@
+// What a station keeps from one visit of the token to the next.
+use frames::MessageNumber;
+use frames::TokenNumber;
+
+pub struct Turn {
+    // The aru of the token forwarded last, and of the one before.
+    pub aru: MessageNumber,
+    pub earlier: MessageNumber,
+    // The number of the token forwarded last. The paper's my_token_seq.
+    pub number: TokenNumber,
+    // What it broadcast at its last visit.
+    pub broadcast: u8,
+    // The paper's my_aru_count.
+    pub stall: u8,
+    // The remembered token's bytes are the first `size`; the others are 0. It may be resent where
+    // `size` is not 0.
+    pub size: u8,
+    pub token: [u8; frames::LONGEST_TOKEN],
+}
