@@ -20,7 +20,12 @@ pub fn get_held(s: &[u8]) -> Held
     let mut lengths = [0u8; size::MOST_HELD];
     words::get_bytes(s, layout::HELD_LENGTHS_AT, size::MOST_HELD, &mut lengths);
     let mut contents = [0u8; size::HELD_CONTENTS];
-    words::get_bytes(s, layout::HELD_CONTENTS_AT, size::HELD_CONTENTS, &mut contents);
+    words::get_bytes(
+        s,
+        layout::HELD_CONTENTS_AT,
+        size::HELD_CONTENTS,
+        &mut contents,
+    );
     Held {
         senders,
         services,

@@ -3,6 +3,7 @@ mod bytes;
 mod fresh;
 mod held_bytes;
 mod layout;
+mod lent;
 mod log;
 mod log_bytes;
 mod members;
@@ -18,9 +19,10 @@ mod whole;
 
 pub use bytes::decode;
 pub use bytes::encode;
-pub use whole::is_whole;
 pub use fresh::fresh_record;
 pub use layout::RECORD_SIZE;
+pub use lent::no_record;
+pub use lent::record_in;
 pub use log::Held;
 pub use log::Log;
 pub use members::ids_follow;
@@ -32,6 +34,7 @@ pub use ring::representative_of;
 pub use size::MOST_MEMBERS;
 pub use size::MOST_POSTS;
 pub use turn::Turn;
+pub use whole::is_whole;
 
 pub struct Record {
     pub own: u16,

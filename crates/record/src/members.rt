@@ -33,8 +33,5 @@ pub fn ids_follow(ids: &[u16]) -> bool
 pub fn foundable_by(ids: &[u16], own: u16, ring: u32) -> bool
     ensures { λ r. ⌜ r ≡ foundable (now (ids .entry)) own ring ⌝ }
 {
-    members_counted(ids)
-        & ids_follow(ids)
-        & is_member(ids, own)
-        & frames::is_number(ring)
+    members_counted(ids) & ids_follow(ids) & is_member(ids, own) & frames::is_number(ring)
 }

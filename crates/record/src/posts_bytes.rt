@@ -18,7 +18,12 @@ pub fn get_posts(s: &[u8]) -> Posts
     let mut lengths = [0u8; size::MOST_POSTS];
     words::get_bytes(s, layout::POST_LENGTHS_AT, size::MOST_POSTS, &mut lengths);
     let mut contents = [0u8; size::POST_CONTENTS];
-    words::get_bytes(s, layout::POST_CONTENTS_AT, size::POST_CONTENTS, &mut contents);
+    words::get_bytes(
+        s,
+        layout::POST_CONTENTS_AT,
+        size::POST_CONTENTS,
+        &mut contents,
+    );
     Posts {
         count: words::get_u8(s, layout::POST_COUNT_AT),
         services,

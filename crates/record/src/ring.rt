@@ -1,7 +1,7 @@
 // Is it this ring's, and are they its members?
 ghost use mathlib.Core.Path.{_≡_};
 ghost use Rattle.record.specs.Members.{representative};
-ghost use Rattle.record.specs.Ring.{thisRing, blockerMember, tokenMembers, tokenPasses};
+ghost use Rattle.record.specs.Ring.{thisRing, blockerMember, tokenMembers, isToken, tokenPasses};
 use crate::members;
 use frames::Answer;
 use frames::Blocker;
@@ -42,6 +42,16 @@ pub fn token_members(ids: &[u16], t: Token) -> bool
     members::is_member(ids, t.addressee) & blocker_member(ids, blocker)
 }
 
+fn is_token(a: Answer) -> bool
+    ensures { λ r. ⌜ r ≡ isToken a ⌝ }
+{
+    match a {
+        Answer::Refused(_) => false,
+        Answer::IsMessage(_) => false,
+        Answer::IsToken => true,
+    }
+}
+
 // Is it a token that passes questions 10 to 14?
 pub fn token_passes(ring: u32, ids: &[u16], frame: &[u8]) -> bool
     ensures { λ r. ⌜ r ≡ tokenPasses ring (now (ids .entry)) (now (frame .entry)) ⌝ }
@@ -49,9 +59,5 @@ pub fn token_passes(ring: u32, ids: &[u16], frame: &[u8]) -> bool
     let reading = frames::read(frame);
     let token = reading.token;
     let answer = reading.answer;
-    match answer {
-        Answer::Refused(_) => false,
-        Answer::IsMessage(_) => false,
-        Answer::IsToken => this_ring(ring, ids, token.header) & token_members(ids, token),
-    }
+    is_token(answer) & this_ring(ring, ids, token.header) & token_members(ids, token)
 }

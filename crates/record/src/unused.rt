@@ -12,22 +12,24 @@ use crate::posts::Posts;
 use crate::size;
 
 // Whatever stands from place n on is zero.
-fn zero_from_u16(s: &[u16], n: usize) -> bool
+fn zero_from_u16(s: &[u16], n: u8) -> bool
     ensures { λ r. ⌜ r ≡ allZero (drop n (now (s .entry))) ⌝ }
 {
-    if s.len() < n {
+    let first = n as usize;
+    if s.len() < first {
         return true;
     }
-    words::all_zero_u16(&s[n..])
+    words::all_zero_u16(&s[first..])
 }
 
-fn zero_from_u8(s: &[u8], n: usize) -> bool
+fn zero_from_u8(s: &[u8], n: u8) -> bool
     ensures { λ r. ⌜ r ≡ allZero (drop n (now (s .entry))) ⌝ }
 {
-    if s.len() < n {
+    let first = n as usize;
+    if s.len() < first {
         return true;
     }
-    words::all_zero_u8(&s[n..])
+    words::all_zero_u8(&s[first..])
 }
 
 // The bytes past each content's length. Ruled out: the last content not looked at; a content's own
@@ -39,12 +41,9 @@ fn contents_padded(lengths: &[u8], contents: &[u8]) -> bool
     let mut i = 0;
     while i < lengths.len() {
         let at = frames::MOST_CONTENT * i;
-        let n = lengths[i] as usize;
-        if n < frames::MOST_CONTENT {
-            let good = words::all_zero_u8(&contents[at + n..at + frames::MOST_CONTENT]);
-            if !good {
-                return false;
-            }
+        let good = zero_from_u8(&contents[at..at + frames::MOST_CONTENT], lengths[i]);
+        if !good {
+            return false;
         }
         i += 1;
     }
@@ -74,7 +73,7 @@ fn log_unused_zero(l: Log) -> bool
     let members = l.members;
     let lengths = l.held.lengths;
     let contents = l.held.contents;
-    zero_from_u16(&members, l.count as usize)
+    zero_from_u16(&members, l.count)
         & free_places_zero(l.held)
         & contents_padded(&lengths, &contents)
 }
@@ -85,8 +84,8 @@ fn posts_unused_zero(p: Posts) -> bool
     let services = p.services;
     let lengths = p.lengths;
     let contents = p.contents;
-    zero_from_u16(&services, p.count as usize)
-        & zero_from_u8(&lengths, p.count as usize)
+    zero_from_u16(&services, p.count)
+        & zero_from_u8(&lengths, p.count)
         & contents_padded(&lengths, &contents)
 }
 
@@ -94,7 +93,5 @@ pub fn unused_zero(r: Record) -> bool
     ensures { λ b. ⌜ b ≡ unusedZero r ⌝ }
 {
     let token = r.turn.token;
-    log_unused_zero(r.log)
-        & posts_unused_zero(r.posts)
-        & zero_from_u8(&token, r.turn.size as usize)
+    log_unused_zero(r.log) & posts_unused_zero(r.posts) & zero_from_u8(&token, r.turn.size)
 }

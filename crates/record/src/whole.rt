@@ -95,10 +95,11 @@ fn members_agree(r: Record) -> bool
     let members = r.log.members;
     let senders = r.log.held.senders;
     let n = r.log.count as usize;
+    let ids = &members[0..n];
     let ring = r.log.ring.0;
-    senders_are_members(&members[0..n], &senders)
-        & leave_is_good(ring, &members[0..n], r.turn)
-        & members::foundable_by(&members[0..n], r.own, ring)
+    senders_are_members(ids, &senders)
+        & leave_is_good(ring, ids, r.turn)
+        & members::foundable_by(ids, r.own, ring)
 }
 
 // The clauses on marks: their order, both aru, what is held and what isn't.

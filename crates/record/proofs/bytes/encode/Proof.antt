@@ -1,43 +1,26 @@
-use Prim.Native.Nat.{ℕ, _≤_, _<_, _+_, _*_, _-_}
-use mathlib.Core.Path.{_≡_, refl, sym, ap, _∙_}
-use mathlib.Core.List.{List, [], _∷_, _++_}
-use native.Mathlib.Omega.{arith}
-use lib.ListN.{length, getD, set, take, drop, length-set}
 use borrow.Author.Needs.{needs}
+use Rattle.record.proofs.Sizes.{RecordArrays}
+use Rattle.record.proofs.PutLaws.{record-stored}
 use Rattle.record.proofs.bytes.encode.Statement.{statement}
 use Rattle.record.proofs.bytes.encode.Tie as tie
-use Rattle.record.proofs.bytes.encode.Reads as reads
-use Rattle.record.proofs.bytes.encode.Lts as lts
-use Rattle.record.proofs.log_bytes.put_log.Reads as put-log-reads
-use Rattle.record.proofs.posts_bytes.put_posts.Reads as put-posts-reads
-use Rattle.record.proofs.turn_bytes.put_turn.Reads as put-turn-reads
-use Rattle.words.proofs.put_u16.Reads as put-u16-reads
-
-put-u16-requires : tie.Need-put-u16-requires
-put-u16-requires c κs = search needs
-
-put-log-requires : tie.Need-put-log-requires
-put-log-requires c κs = search needs
-
-put-turn-requires : tie.Need-put-turn-requires
-put-turn-requires c κs = search needs
-
-put-posts-requires : tie.Need-put-posts-requires
-put-posts-requires c κs = search needs
-
-same-length : tie.Need-same-length
-same-length c = search needs
 
 returns : tie.Need-returns
-returns c = ?
+returns c =
+    let fields = c .before .before .before .before .before .before .before .before .before .before .before .before .before .before .before .before .before .good .0 .1 .1 .1 in
+    let arrays : RecordArrays (c .before .before .before .before .before .before .before .before .before .before .before .before .before .before .before .before .before .args .r) =
+    record {
+      log = record { members = (let g = fields .0 in search needs); held = (let g = fields .0 .1 .1 .1 .1 .1 .1 .1 .1 .0 in search needs) };
+      token = (let g = fields .1 .0 .1 .1 .1 .1 .1 .1 .1 .1 .0 in search needs);
+      posts = (let g = fields .1 .1 .0 in search needs);
+    } in
+    record-stored _ _ _ _ _ _ arrays (c .before .before .before .before .before .before .before .before .before .before .before .before .before .before .before .before .before .pre)
+    (c .before .before .before .before .before .before .before .before .before .before .before .before .before .before .put-u16 .ensures)
+    (c .before .before .before .before .before .before .before .before .before .before .put-log .ensures)
+    (c .before .before .before .before .before .before .put-turn .ensures)
+    (c .before .before .put-posts .ensures)
 
 pub encode-spec : {M : Type 1} → statement M
 encode-spec =
     tie.close
-    (tie.spec
-    put-u16-requires
-    put-log-requires
-    put-turn-requires
-    put-posts-requires
-    same-length
-    returns)
+    (tie.spec (λ c κs. search needs) (λ c κs. search needs) (λ c κs. search needs) (λ c κs. search needs)
+    (λ c. search needs) returns)

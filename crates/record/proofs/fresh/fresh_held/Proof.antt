@@ -1,15 +1,11 @@
-use Prim.Native.Nat.{ℕ, _≤_, _<_, _+_, _*_, _-_}
-use mathlib.Core.Path.{_≡_, refl, sym, ap, _∙_}
-use mathlib.Core.List.{List, [], _∷_, _++_}
-use native.Mathlib.Omega.{arith}
-use lib.ListN.{length, getD, set, take, drop, length-set}
+use mathlib.Core.Path.{refl}
+use Rattle.record.specs.Fresh.{freshHeld}
 use Rattle.record.proofs.fresh.fresh_held.Statement.{statement}
 use Rattle.record.proofs.fresh.fresh_held.Tie as tie
-use Rattle.record.proofs.fresh.fresh_held.Reads as reads
-use Rattle.record.proofs.fresh.fresh_held.Lts as lts
 
 returns : tie.Need-returns
-returns c = ?
+unfolding freshHeld
+returns c = refl
 
 pub fresh-held-spec : {M : Type 1} → statement M
 fresh-held-spec = tie.close (tie.spec returns)

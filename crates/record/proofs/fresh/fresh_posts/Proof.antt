@@ -1,15 +1,11 @@
-use Prim.Native.Nat.{ℕ, _≤_, _<_, _+_, _*_, _-_}
-use mathlib.Core.Path.{_≡_, refl, sym, ap, _∙_}
-use mathlib.Core.List.{List, [], _∷_, _++_}
-use native.Mathlib.Omega.{arith}
-use lib.ListN.{length, getD, set, take, drop, length-set}
+use mathlib.Core.Path.{refl}
+use Rattle.record.specs.Fresh.{freshPosts}
 use Rattle.record.proofs.fresh.fresh_posts.Statement.{statement}
 use Rattle.record.proofs.fresh.fresh_posts.Tie as tie
-use Rattle.record.proofs.fresh.fresh_posts.Reads as reads
-use Rattle.record.proofs.fresh.fresh_posts.Lts as lts
 
 returns : tie.Need-returns
-returns c = ?
+unfolding freshPosts
+returns c = refl
 
 pub fresh-posts-spec : {M : Type 1} → statement M
 fresh-posts-spec = tie.close (tie.spec returns)

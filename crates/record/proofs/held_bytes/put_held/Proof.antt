@@ -1,73 +1,45 @@
-use Prim.Native.Nat.{ℕ, _≤_, _<_, _+_, _*_, _-_}
-use mathlib.Core.Path.{_≡_, refl, sym, ap, _∙_}
-use mathlib.Core.List.{List, [], _∷_, _++_}
+use mathlib.Core.Path.{_≡_}
 use native.Mathlib.Omega.{arith}
-use lib.ListN.{length, getD, set, take, drop, length-set}
+use lib.ListN.{length}
 use borrow.Author.Needs.{needs}
+use Rattle.record.proofs.Sizes.{HeldArrays}
+use Rattle.record.proofs.PutLaws.{held-stored}
+use Rattle.record.specs.Size.{mostHeld, heldContents}
 use Rattle.record.proofs.held_bytes.put_held.Statement.{statement}
 use Rattle.record.proofs.held_bytes.put_held.Tie as tie
-use Rattle.record.proofs.held_bytes.put_held.Reads as reads
-use Rattle.record.proofs.held_bytes.put_held.Lts as lts
-use Rattle.words.proofs.put_bytes.Reads as put-bytes-reads
-use Rattle.words.proofs.put_u16s.Reads as put-u16s-reads
-
-add-put-u16s : tie.Need-add-put-u16s
-add-put-u16s c = search needs
-
-slice-aggregate-put-u16s : tie.Need-slice-aggregate-put-u16s
-slice-aggregate-put-u16s c = search needs
 
 put-u16s-requires : tie.Need-put-u16s-requires
-put-u16s-requires c κs = ?
-
-add-put-u16s-2 : tie.Need-add-put-u16s-2
-add-put-u16s-2 c = search needs
-
-slice-aggregate-put-u16s-2 : tie.Need-slice-aggregate-put-u16s-2
-slice-aggregate-put-u16s-2 c = search needs
+put-u16s-requires c κs =
+    let long : length (c .before .before .before .before .before .before .before .args .h .senders) ≡ mostHeld = search needs in
+    omega arith
 
 put-u16s-requires-2 : tie.Need-put-u16s-requires-2
-put-u16s-requires-2 c κs = ?
-
-add-put-bytes : tie.Need-add-put-bytes
-add-put-bytes c = search needs
-
-slice-aggregate-put-bytes : tie.Need-slice-aggregate-put-bytes
-slice-aggregate-put-bytes c = search needs
+put-u16s-requires-2 c κs =
+    let long : length (c .before .before .before .before .before .before .before .before .before .before .before .before .args .h .services) ≡ mostHeld = search needs in
+    omega arith
 
 put-bytes-requires : tie.Need-put-bytes-requires
-put-bytes-requires c κs = ?
-
-add-put-bytes-2 : tie.Need-add-put-bytes-2
-add-put-bytes-2 c = search needs
-
-slice-aggregate-put-bytes-2 : tie.Need-slice-aggregate-put-bytes-2
-slice-aggregate-put-bytes-2 c = search needs
+put-bytes-requires c κs =
+    let long : length (c .before .before .before .before .before .before .before .before .before .before .before .before .before .before .before .before .before .args .h .lengths) ≡ mostHeld = search needs in
+    omega arith
 
 put-bytes-requires-2 : tie.Need-put-bytes-requires-2
-put-bytes-requires-2 c κs = ?
-
-same-length : tie.Need-same-length
-same-length c = search needs
+put-bytes-requires-2 c κs =
+    let long : length (c .before .before .before .before .before .before .before .before .before .before .before .before .before .before .before .before .before .before .before .before .before .before .args .h .contents) ≡ heldContents = search needs in
+    omega arith
 
 returns : tie.Need-returns
-returns c = ?
+returns c =
+    let arrays : HeldArrays (c .before .before .before .before .before .before .before .before .before .before .before .before .before .before .before .before .before .before .before .before .before .before .before .before .before .args .h) = search needs in
+    held-stored _ _ _ _ _ _ _ arrays
+    (c .before .before .before .before .before .before .before .before .before .before .before .before .before .before .before .before .before .put-u16s .ensures)
+    (c .before .before .before .before .before .before .before .before .before .before .before .before .put-u16s2 .ensures)
+    (c .before .before .before .before .before .before .before .put-bytes .ensures)
+    (c .before .before .put-bytes2 .ensures)
 
 pub put-held-spec : {M : Type 1} → statement M
 put-held-spec =
     tie.close
-    (tie.spec
-    add-put-u16s
-    slice-aggregate-put-u16s
-    put-u16s-requires
-    add-put-u16s-2
-    slice-aggregate-put-u16s-2
-    put-u16s-requires-2
-    add-put-bytes
-    slice-aggregate-put-bytes
-    put-bytes-requires
-    add-put-bytes-2
-    slice-aggregate-put-bytes-2
-    put-bytes-requires-2
-    same-length
-    returns)
+    (tie.spec (λ c. search needs) (λ c. search needs) put-u16s-requires (λ c. search needs) (λ c. search needs)
+    put-u16s-requires-2 (λ c. search needs) (λ c. search needs) put-bytes-requires (λ c. search needs)
+    (λ c. search needs) put-bytes-requires-2 (λ c. search needs) returns)

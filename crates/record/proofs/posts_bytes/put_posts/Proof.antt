@@ -1,70 +1,44 @@
-use Prim.Native.Nat.{ℕ, _≤_, _<_, _+_, _*_, _-_}
-use mathlib.Core.Path.{_≡_, refl, sym, ap, _∙_}
-use mathlib.Core.List.{List, [], _∷_, _++_}
+use mathlib.Core.Path.{_≡_}
 use native.Mathlib.Omega.{arith}
-use lib.ListN.{length, getD, set, take, drop, length-set}
+use lib.ListN.{length}
 use borrow.Author.Needs.{needs}
+use Rattle.record.proofs.Sizes.{PostsArrays}
+use Rattle.record.proofs.PutLaws.{posts-stored}
+use Rattle.record.specs.Size.{mostPosts, postContents}
 use Rattle.record.proofs.posts_bytes.put_posts.Statement.{statement}
 use Rattle.record.proofs.posts_bytes.put_posts.Tie as tie
-use Rattle.record.proofs.posts_bytes.put_posts.Reads as reads
-use Rattle.record.proofs.posts_bytes.put_posts.Lts as lts
-use Rattle.words.proofs.put_bytes.Reads as put-bytes-reads
-use Rattle.words.proofs.put_u16s.Reads as put-u16s-reads
-use Rattle.words.proofs.put_u8.Reads as put-u8-reads
-
-add-put-u8 : tie.Need-add-put-u8
-add-put-u8 c = search needs
-
-put-u8-requires : tie.Need-put-u8-requires
-put-u8-requires c κs = search needs
-
-add-put-u16s : tie.Need-add-put-u16s
-add-put-u16s c = search needs
-
-slice-aggregate-put-u16s : tie.Need-slice-aggregate-put-u16s
-slice-aggregate-put-u16s c = search needs
 
 put-u16s-requires : tie.Need-put-u16s-requires
-put-u16s-requires c κs = ?
-
-add-put-bytes : tie.Need-add-put-bytes
-add-put-bytes c = search needs
-
-slice-aggregate-put-bytes : tie.Need-slice-aggregate-put-bytes
-slice-aggregate-put-bytes c = search needs
+put-u16s-requires c κs =
+    let start = c .before .before .before .before .before .before .before .before .before .before in
+    let long : length (start .args .p .services) ≡ mostPosts = (let g = start .good in search needs) in
+    omega (arith, start .pre)
 
 put-bytes-requires : tie.Need-put-bytes-requires
-put-bytes-requires c κs = ?
-
-add-put-bytes-2 : tie.Need-add-put-bytes-2
-add-put-bytes-2 c = search needs
-
-slice-aggregate-put-bytes-2 : tie.Need-slice-aggregate-put-bytes-2
-slice-aggregate-put-bytes-2 c = search needs
+put-bytes-requires c κs =
+    let start = c .before .before .before .before .before .before .before .before .before .before .before .before .before .before .before in
+    let long : length (start .args .p .lengths) ≡ mostPosts = (let g = start .good in search needs) in
+    omega (arith, start .pre)
 
 put-bytes-requires-2 : tie.Need-put-bytes-requires-2
-put-bytes-requires-2 c κs = ?
-
-same-length : tie.Need-same-length
-same-length c = search needs
+put-bytes-requires-2 c κs =
+    let start = c .before .before .before .before .before .before .before .before .before .before .before .before .before .before .before .before .before .before .before .before in
+    let long : length (start .args .p .contents) ≡ postContents = (let g = start .good in search needs) in
+    omega (arith, start .pre)
 
 returns : tie.Need-returns
-returns c = ?
+returns c =
+    let start = c .before .before .before .before .before .before .before .before .before .before .before .before .before .before .before .before .before .before .before .before .before .before .before in
+    let arrays : PostsArrays (start .args .p) = (let g = start .good in search needs) in
+    posts-stored _ _ _ _ _ _ _ arrays
+    (c .before .before .before .before .before .before .before .before .before .before .before .before .before .before .before .before .before .put-u8 .ensures)
+    (c .before .before .before .before .before .before .before .before .before .before .before .before .put-u16s .ensures)
+    (c .before .before .before .before .before .before .before .put-bytes .ensures)
+    (c .before .before .put-bytes2 .ensures)
 
 pub put-posts-spec : {M : Type 1} → statement M
 put-posts-spec =
     tie.close
-    (tie.spec
-    add-put-u8
-    put-u8-requires
-    add-put-u16s
-    slice-aggregate-put-u16s
-    put-u16s-requires
-    add-put-bytes
-    slice-aggregate-put-bytes
-    put-bytes-requires
-    add-put-bytes-2
-    slice-aggregate-put-bytes-2
-    put-bytes-requires-2
-    same-length
-    returns)
+    (tie.spec (λ c. search needs) (λ c κs. search needs) (λ c. search needs) (λ c. search needs) put-u16s-requires
+    (λ c. search needs) (λ c. search needs) put-bytes-requires (λ c. search needs) (λ c. search needs)
+    put-bytes-requires-2 (λ c. search needs) returns)

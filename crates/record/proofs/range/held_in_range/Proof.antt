@@ -1,41 +1,32 @@
-use Prim.Native.Nat.{ℕ, _≤_, _<_, _+_, _*_, _-_}
-use mathlib.Core.Path.{_≡_, refl, sym, ap, _∙_}
-use mathlib.Core.List.{List, [], _∷_, _++_}
+use Prim.Native.Nat.{ℕ}
+use mathlib.Core.Path.{_≡_}
 use native.Mathlib.Omega.{arith}
-use lib.ListN.{length, getD, set, take, drop, length-set}
+use lib.ListN.{length, getD}
 use borrow.Author.Needs.{needs}
+use mir.Val.{Fits}
+use mir.Syntax.{w16}
+use Rattle.record.specs.Size.{mostHeld, heldContents}
+use Rattle.record.proofs.RangeLaws.{held-tested}
 use Rattle.record.proofs.range.held_in_range.Statement.{statement}
 use Rattle.record.proofs.range.held_in_range.Tie as tie
-use Rattle.record.proofs.range.held_in_range.Reads as reads
-use Rattle.record.proofs.range.held_in_range.Lts as lts
-use Rattle.words.proofs.all_within_u16.Reads as all-within-u16-reads
-use Rattle.words.proofs.all_within_u8.Reads as all-within-u8-reads
-
-slice-aggregate-all-within-u16 : tie.Need-slice-aggregate-all-within-u16
-slice-aggregate-all-within-u16 c = search needs
-
-all-within-u16-requires : tie.Need-all-within-u16-requires
-all-within-u16-requires c κs = search needs
-
-slice-aggregate-all-within-u8 : tie.Need-slice-aggregate-all-within-u8
-slice-aggregate-all-within-u8 c = search needs
-
-cast-all-within-u8 : tie.Need-cast-all-within-u8
-cast-all-within-u8 c = search needs
-
-all-within-u8-requires : tie.Need-all-within-u8-requires
-all-within-u8-requires c κs = search needs
 
 returns : tie.Need-returns
-returns c = ?
+returns c =
+    let start = c .before .before .before .before .before .before in
+    let senders : length (start .args .h .senders) ≡ mostHeld = (let g = start .good in search needs) in
+    let services : length (start .args .h .services) ≡ mostHeld = (let g = start .good in search needs) in
+    let lengths : length (start .args .h .lengths) ≡ mostHeld = (let g = start .good in search needs) in
+    let contents : length (start .args .h .contents) ≡ heldContents = (let g = start .good in search needs) in
+    let fits : (i : ℕ) → Fits w16 (getD (start .args .h .senders) i 0) = (λ i. let g = start .good in search needs) in
+    held-tested _ senders services lengths contents (λ i. omega (arith, fits i .fits)) _ _ (c .before .before .all-within-u16 .ensures) (c .all-within-u8 .ensures)
 
 pub held-in-range-spec : {M : Type 1} → statement M
 held-in-range-spec =
     tie.close
     (tie.spec
-    slice-aggregate-all-within-u16
-    all-within-u16-requires
-    slice-aggregate-all-within-u8
-    cast-all-within-u8
-    all-within-u8-requires
+    (λ c. search needs)
+    (λ c κs. search needs)
+    (λ c. search needs)
+    (λ c. search needs)
+    (λ c κs. search needs)
     returns)

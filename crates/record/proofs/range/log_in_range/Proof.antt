@@ -1,32 +1,25 @@
-use Prim.Native.Nat.{ℕ, _≤_, _<_, _+_, _*_, _-_}
-use mathlib.Core.Path.{_≡_, refl, sym, ap, _∙_}
-use mathlib.Core.List.{List, [], _∷_, _++_}
-use native.Mathlib.Omega.{arith}
-use lib.ListN.{length, getD, set, take, drop, length-set}
+use mathlib.Core.Path.{_≡_}
+use lib.ListN.{length}
 use borrow.Author.Needs.{needs}
+use borrow.Author.Tests.{leb-true, not-true, not-false}
+use Rattle.record.specs.Size.{mostMembers}
+use Rattle.record.proofs.RangeLaws.{safe-refused, log-tested}
 use Rattle.record.proofs.range.log_in_range.Statement.{statement}
 use Rattle.record.proofs.range.log_in_range.Tie as tie
-use Rattle.record.proofs.range.log_in_range.Reads as reads
-use Rattle.record.proofs.range.log_in_range.Lts as lts
-use Rattle.record.proofs.range.held_in_range.Reads as held-in-range-reads
-use Rattle.record.proofs.range.numbers_in_range.Reads as numbers-in-range-reads
-
-cast-counted : tie.Need-cast-counted
-cast-counted c = search needs
 
 returns : tie.Need-returns
-returns c = ?
-
-held-in-range-requires : tie.Need-held-in-range-requires
-held-in-range-requires c κs = search needs
+returns c = safe-refused _ (not-true _ (c .if1 .taken))
 
 numbers-in-range-requires : tie.Need-numbers-in-range-requires
-numbers-in-range-requires c κs = ?
+numbers-in-range-requires c κs = leb-true _ _ (not-false _ (c .before .if1 .left))
 
 returns-2 : tie.Need-returns-2
-returns-2 c = ?
+returns-2 c =
+    let start = c .before .before .before .before .before .before .before in
+    let members : length (start .args .l .members) ≡ mostMembers = (let g = start .good .0 .1 in search needs) in
+    log-tested (start .args .l) members (not-false _ (c .before .before .if1 .left)) _ _ (c .before .held-in-range .ensures) (c .numbers-in-range .ensures)
 
 pub log-in-range-spec : {M : Type 1} → statement M
 log-in-range-spec =
     tie.close
-    (tie.spec cast-counted returns held-in-range-requires numbers-in-range-requires returns-2)
+    (tie.spec (λ c. search needs) returns (λ c κs. search needs) numbers-in-range-requires returns-2)

@@ -1,70 +1,45 @@
-use Prim.Native.Nat.{ℕ, _≤_, _<_, _+_, _*_, _-_}
-use mathlib.Core.Path.{_≡_, refl, sym, ap, _∙_}
-use mathlib.Core.List.{List, [], _∷_, _++_}
-use native.Mathlib.Omega.{arith}
-use lib.ListN.{length, getD, set, take, drop, length-set}
+use Prim.Native.Nat.{suc, _-_}
+use mathlib.Core.Bool.{not, _||_, Bool·not-not}
+use native.Mathlib.Numerals.{add-one}
+use lib.ListN.{getD}
+use lib.Dec.{leb, eqb}
+use borrow.Author.Needs.{needs}
+use borrow.Author.Tests.{not-true, not-false}
+use Rattle.frames.specs.Number.{mostNumber}
+use Rattle.record.specs.Size.{mostHeld}
+use Rattle.record.specs.Held.{placeOf}
+use Rattle.record.specs.Whole.{numbersInRange}
+use Rattle.record.proofs.CountLaws.{Counting, count-starts, count-stops, count-goes, count-ends}
 use Rattle.record.proofs.range.numbers_in_range.Statement.{statement}
 use Rattle.record.proofs.range.numbers_in_range.Tie as tie
-use Rattle.record.proofs.range.numbers_in_range.Reads as reads
-use Rattle.record.proofs.range.numbers_in_range.Lts as lts
 
 abbrev Inv-loop : tie.InvT-loop
-Inv-loop senders safe i₀ i = ?
+Inv-loop senders safe i₀ i = Counting (λ n. leb n mostNumber || not (not (eqb (getD senders (placeOf n) 0) 0))) (suc safe) mostHeld i
 
 abbrev μ-loop : tie.MeasureT-loop
-μ-loop senders safe i₀ i = ?
+μ-loop senders safe i₀ i = mostHeld - i
 
 loop-holds : tie.Need-loop-holds Inv-loop μ-loop
-loop-holds c = omega arith
-
-add-n : tie.Need-add-n Inv-loop μ-loop
-add-n c = omega arith
-
-cast-n : tie.Need-cast-n Inv-loop μ-loop
-cast-n c = omega arith
-
-add-n-2 : tie.Need-add-n-2 Inv-loop μ-loop
-add-n-2 c = omega arith
-
-cast-good : tie.Need-cast-good Inv-loop μ-loop
-cast-good c = omega arith
-
-mul-good : tie.Need-mul-good Inv-loop μ-loop
-mul-good c = omega arith
-
-array-read-good : tie.Need-array-read-good Inv-loop μ-loop
-array-read-good c = omega arith
+loop-holds c = count-starts _ _ _
 
 returns : tie.Need-returns Inv-loop μ-loop
-returns c = omega arith
-
-add-i : tie.Need-add-i Inv-loop μ-loop
-add-i c = omega arith
-
-loop-less : tie.Need-loop-less Inv-loop μ-loop
-loop-less c = omega arith
+unfolding numbersInRange
+returns c =
+    count-stops _ _ _ _
+    (c .before .before .loop .inv) (c .before .loop-test .taken)
+    (rw (Bool·not-not, ← add-one (c .before .before .before .before .args .l .safe .0)) (not-true _ (c .if1 .taken)))
 
 loop-again : tie.Need-loop-again Inv-loop μ-loop
-loop-again c = omega arith
+loop-again c =
+    count-goes _ _ _ _
+    (c .before .before .loop .inv) (c .before .loop-test .taken)
+    (rw (Bool·not-not, ← add-one (c .before .before .before .before .args .l .safe .0)) (not-false _ (c .if1 .left)))
 
 returns-2 : tie.Need-returns-2 Inv-loop μ-loop
-returns-2 c = omega arith
+unfolding numbersInRange
+returns-2 c = count-ends _ _ _ _ (c .before .loop .inv) (c .loop-test .left)
 
 pub numbers-in-range-spec : {M : Type 1} → statement M
 numbers-in-range-spec =
     tie.close
-    (tie.spec
-    Inv-loop
-    μ-loop
-    loop-holds
-    add-n
-    cast-n
-    add-n-2
-    cast-good
-    mul-good
-    array-read-good
-    returns
-    add-i
-    loop-less
-    loop-again
-    returns-2)
+    (tie.spec Inv-loop μ-loop loop-holds (λ c. search needs) (λ c. search needs) (λ c. search needs) (λ c. search needs) (λ c. search needs) (λ c. search needs) returns (λ c. search needs) (λ c. search needs) loop-again returns-2)

@@ -1,64 +1,44 @@
-use Prim.Native.Nat.{ℕ, _≤_, _<_, _+_, _*_, _-_}
-use mathlib.Core.Path.{_≡_, refl, sym, ap, _∙_}
-use mathlib.Core.List.{List, [], _∷_, _++_}
-use native.Mathlib.Omega.{arith}
-use lib.ListN.{length, getD, set, take, drop, length-set}
+use Prim.Native.Nat.{_+_, _*_, _-_}
+use mathlib.Core.Path.{_∙_}
+use lib.ListN.{length, getD, take, drop}
+use native.Mathlib.Nat.{zero-add}
+use borrow.Author.Needs.{needs}
+use borrow.Author.Tests.{not-true, not-false}
+use Rattle.words.specs.Scan.{allZero}
+use Rattle.frames.specs.Layout.{mostContent}
+use Rattle.record.specs.Whole.{contentsPadded}
+use Rattle.record.proofs.CountLaws.{Counting, count-starts, count-stops, count-goes, count-ends}
+use Rattle.record.proofs.UnusedLaws.{past-length}
 use Rattle.record.proofs.unused.contents_padded.Statement.{statement}
 use Rattle.record.proofs.unused.contents_padded.Tie as tie
-use Rattle.record.proofs.unused.contents_padded.Reads as reads
-use Rattle.record.proofs.unused.contents_padded.Lts as lts
-use Rattle.words.proofs.all_zero_u8.Reads as all-zero-u8-reads
 
 abbrev Inv-loop : tie.InvT-loop
-Inv-loop lengths contents i₀ i = ?
+Inv-loop lengths contents i₀ i = Counting (λ place. allZero (take (mostContent - getD lengths place 0) (drop (mostContent * place + getD lengths place 0) contents))) 0 (length lengths) i
 
 abbrev μ-loop : tie.MeasureT-loop
-μ-loop lengths contents i₀ i = ?
+μ-loop lengths contents i₀ i = length lengths - i
 
 loop-holds : tie.Need-loop-holds Inv-loop μ-loop
-loop-holds c = omega arith
-
-mul-at : tie.Need-mul-at Inv-loop μ-loop
-mul-at c = omega arith
-
-shared-slice-read-n : tie.Need-shared-slice-read-n Inv-loop μ-loop
-shared-slice-read-n c = omega arith
-
-cast-n : tie.Need-cast-n Inv-loop μ-loop
-cast-n c = omega arith
-
-add-all-zero-u8 : tie.Need-add-all-zero-u8 Inv-loop μ-loop
-add-all-zero-u8 c = omega arith
-
-add-all-zero-u8-2 : tie.Need-add-all-zero-u8-2 Inv-loop μ-loop
-add-all-zero-u8-2 c = omega arith
-
-sub-all-zero-u8 : tie.Need-sub-all-zero-u8 Inv-loop μ-loop
-sub-all-zero-u8 c = omega arith
-
-part-all-zero-u8-start : tie.Need-part-all-zero-u8-start Inv-loop μ-loop
-part-all-zero-u8-start c = omega arith
-
-part-all-zero-u8-end : tie.Need-part-all-zero-u8-end Inv-loop μ-loop
-part-all-zero-u8-end c = omega arith
-
-all-zero-u8-requires : tie.Need-all-zero-u8-requires Inv-loop μ-loop
-all-zero-u8-requires c κs = omega arith
+loop-holds c = count-starts _ _ _
 
 returns : tie.Need-returns Inv-loop μ-loop
-returns c = omega arith
-
-add-i : tie.Need-add-i Inv-loop μ-loop
-add-i c = omega arith
-
-loop-less : tie.Need-loop-less Inv-loop μ-loop
-loop-less c = omega arith
+unfolding contentsPadded
+returns c =
+    count-stops _ _ _ _
+    (c .before .before .before .before .before .loop .inv)
+    (c .before .before .before .before .loop-test .taken)
+    (rw zero-add (past-length (c .before .before .before .before .before .before .before .before .args .contents .now) (mostContent * c .before .before .before .before .before .loop .i) mostContent (getD (c .before .before .before .before .before .before .before .before .args .lengths .now) (c .before .before .before .before .before .loop .i) 0) _ (c .before .zero-from-u8 .ensures) ∙ not-true _ (c .if1 .taken)))
 
 loop-again : tie.Need-loop-again Inv-loop μ-loop
-loop-again c = omega arith
+loop-again c =
+    count-goes _ _ _ _
+    (c .before .before .before .before .before .loop .inv)
+    (c .before .before .before .before .loop-test .taken)
+    (rw zero-add (past-length (c .before .before .before .before .before .before .before .before .args .contents .now) (mostContent * c .before .before .before .before .before .loop .i) mostContent (getD (c .before .before .before .before .before .before .before .before .args .lengths .now) (c .before .before .before .before .before .loop .i) 0) _ (c .before .zero-from-u8 .ensures) ∙ not-false _ (c .if1 .left)))
 
 returns-2 : tie.Need-returns-2 Inv-loop μ-loop
-returns-2 c = omega arith
+unfolding contentsPadded
+returns-2 c = count-ends _ _ _ _ (c .before .loop .inv) (c .loop-test .left)
 
 pub contents-padded-spec : {M : Type 1} → statement M
 contents-padded-spec =
@@ -67,17 +47,15 @@ contents-padded-spec =
     Inv-loop
     μ-loop
     loop-holds
-    mul-at
-    shared-slice-read-n
-    cast-n
-    add-all-zero-u8
-    add-all-zero-u8-2
-    sub-all-zero-u8
-    part-all-zero-u8-start
-    part-all-zero-u8-end
-    all-zero-u8-requires
+    (λ c. search needs)
+    (λ c. search needs)
+    (λ c. search needs)
+    (λ c. search needs)
+    (λ c. search needs)
+    (λ c. search needs)
+    (λ c κs. search needs)
     returns
-    add-i
-    loop-less
+    (λ c. search needs)
+    (λ c. search needs)
     loop-again
     returns-2)

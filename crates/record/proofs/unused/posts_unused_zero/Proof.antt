@@ -1,58 +1,32 @@
-use Prim.Native.Nat.{ℕ, _≤_, _<_, _+_, _*_, _-_}
-use mathlib.Core.Path.{_≡_, refl, sym, ap, _∙_}
-use mathlib.Core.List.{List, [], _∷_, _++_}
+use mathlib.Core.Path.{_≡_}
 use native.Mathlib.Omega.{arith}
-use lib.ListN.{length, getD, set, take, drop, length-set}
+use lib.ListN.{length}
 use borrow.Author.Needs.{needs}
+use Rattle.record.specs.Size.{mostPosts, postContents}
+use Rattle.record.specs.Whole.{postsUnusedZero}
 use Rattle.record.proofs.unused.posts_unused_zero.Statement.{statement}
 use Rattle.record.proofs.unused.posts_unused_zero.Tie as tie
-use Rattle.record.proofs.unused.posts_unused_zero.Reads as reads
-use Rattle.record.proofs.unused.posts_unused_zero.Lts as lts
-use Rattle.record.proofs.unused.contents_padded.Reads as contents-padded-reads
-use Rattle.record.proofs.unused.zero_from_u16.Reads as zero-from-u16-reads
-use Rattle.record.proofs.unused.zero_from_u8.Reads as zero-from-u8-reads
-
-slice-aggregate-zero-from-u16 : tie.Need-slice-aggregate-zero-from-u16
-slice-aggregate-zero-from-u16 c = search needs
-
-cast-zero-from-u16 : tie.Need-cast-zero-from-u16
-cast-zero-from-u16 c = search needs
-
-zero-from-u16-requires : tie.Need-zero-from-u16-requires
-zero-from-u16-requires c κs = search needs
-
-slice-aggregate-zero-from-u8 : tie.Need-slice-aggregate-zero-from-u8
-slice-aggregate-zero-from-u8 c = search needs
-
-cast-zero-from-u8 : tie.Need-cast-zero-from-u8
-cast-zero-from-u8 c = search needs
-
-zero-from-u8-requires : tie.Need-zero-from-u8-requires
-zero-from-u8-requires c κs = search needs
-
-slice-aggregate-contents-padded : tie.Need-slice-aggregate-contents-padded
-slice-aggregate-contents-padded c = search needs
-
-slice-aggregate-contents-padded-2 : tie.Need-slice-aggregate-contents-padded-2
-slice-aggregate-contents-padded-2 c = search needs
 
 contents-padded-requires : tie.Need-contents-padded-requires
-contents-padded-requires c κs = ?
+contents-padded-requires c κs =
+    let start = c .before .before .before .before .before .before .before .before .before in
+    let lengths : length (start .args .p .lengths) ≡ mostPosts = (let g = start .good in search needs) in
+    let contents : length (start .args .p .contents) ≡ postContents = (let g = start .good in search needs) in
+    omega (arith, lengths, contents)
 
 returns : tie.Need-returns
-returns c = ?
+unfolding postsUnusedZero
+returns c = rw (c .before .before .before .before .before .zero-from-u16 .ensures, c .before .before .before .zero-from-u8 .ensures, c .contents-padded .ensures)
 
 pub posts-unused-zero-spec : {M : Type 1} → statement M
 posts-unused-zero-spec =
     tie.close
     (tie.spec
-    slice-aggregate-zero-from-u16
-    cast-zero-from-u16
-    zero-from-u16-requires
-    slice-aggregate-zero-from-u8
-    cast-zero-from-u8
-    zero-from-u8-requires
-    slice-aggregate-contents-padded
-    slice-aggregate-contents-padded-2
+    (λ c. search needs)
+    (λ c κs. search needs)
+    (λ c. search needs)
+    (λ c κs. search needs)
+    (λ c. search needs)
+    (λ c. search needs)
     contents-padded-requires
     returns)

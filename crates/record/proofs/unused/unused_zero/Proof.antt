@@ -1,42 +1,21 @@
-use Prim.Native.Nat.{ℕ, _≤_, _<_, _+_, _*_, _-_}
-use mathlib.Core.Path.{_≡_, refl, sym, ap, _∙_}
-use mathlib.Core.List.{List, [], _∷_, _++_}
-use native.Mathlib.Omega.{arith}
-use lib.ListN.{length, getD, set, take, drop, length-set}
 use borrow.Author.Needs.{needs}
+use Rattle.record.specs.Whole.{unusedZero}
 use Rattle.record.proofs.unused.unused_zero.Statement.{statement}
 use Rattle.record.proofs.unused.unused_zero.Tie as tie
-use Rattle.record.proofs.unused.unused_zero.Reads as reads
-use Rattle.record.proofs.unused.unused_zero.Lts as lts
-use Rattle.record.proofs.unused.log_unused_zero.Reads as log-unused-zero-reads
-use Rattle.record.proofs.unused.posts_unused_zero.Reads as posts-unused-zero-reads
-use Rattle.record.proofs.unused.zero_from_u8.Reads as zero-from-u8-reads
-
-log-unused-zero-requires : tie.Need-log-unused-zero-requires
-log-unused-zero-requires c κs = search needs
-
-posts-unused-zero-requires : tie.Need-posts-unused-zero-requires
-posts-unused-zero-requires c κs = search needs
 
 slice-aggregate-zero-from-u8 : tie.Need-slice-aggregate-zero-from-u8
-slice-aggregate-zero-from-u8 c = ?
-
-cast-zero-from-u8 : tie.Need-cast-zero-from-u8
-cast-zero-from-u8 c = search needs
-
-zero-from-u8-requires : tie.Need-zero-from-u8-requires
-zero-from-u8-requires c κs = search needs
+slice-aggregate-zero-from-u8 c = let g = c .before .before .before .before .good .0 .1 .1 .1 .1 .0 .1 .1 .1 .1 .1 .1 .1 .1 .0 in search needs
 
 returns : tie.Need-returns
-returns c = ?
+unfolding unusedZero
+returns c = rw (c .before .before .before .log-unused-zero .ensures, c .before .before .posts-unused-zero .ensures, c .zero-from-u8 .ensures)
 
 pub unused-zero-spec : {M : Type 1} → statement M
 unused-zero-spec =
     tie.close
     (tie.spec
-    log-unused-zero-requires
-    posts-unused-zero-requires
+    (λ c κs. search needs)
+    (λ c κs. search needs)
     slice-aggregate-zero-from-u8
-    cast-zero-from-u8
-    zero-from-u8-requires
+    (λ c κs. search needs)
     returns)

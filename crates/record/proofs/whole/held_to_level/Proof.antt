@@ -1,43 +1,32 @@
-use Prim.Native.Nat.{ℕ, _≤_, _<_, _+_, _*_, _-_}
-use mathlib.Core.Path.{_≡_, refl, sym, ap, _∙_}
-use mathlib.Core.List.{List, [], _∷_, _++_}
-use native.Mathlib.Omega.{arith}
-use lib.ListN.{length, getD, set, take, drop, length-set}
+use Prim.Native.Nat.{suc, _-_}
+use mathlib.Core.Path.{sym, _∙_}
+use borrow.Author.Needs.{needs}
+use borrow.Author.Tests.{not-true, not-false}
+use Rattle.record.specs.Held.{holds}
+use Rattle.record.specs.Whole.{heldToLevel}
+use Rattle.record.proofs.CountLaws.{Running, run-starts, run-stops, run-goes, run-ends}
 use Rattle.record.proofs.whole.held_to_level.Statement.{statement}
 use Rattle.record.proofs.whole.held_to_level.Tie as tie
-use Rattle.record.proofs.whole.held_to_level.Reads as reads
-use Rattle.record.proofs.whole.held_to_level.Lts as lts
-use Rattle.record.proofs.whole.is_held.Reads as is-held-reads
 
 abbrev Inv-loop : tie.InvT-loop
-Inv-loop l level n₀ n = ?
+Inv-loop l level n₀ n = Running (holds l) (l .safe .0) (l .level .0) n
 
 abbrev μ-loop : tie.MeasureT-loop
-μ-loop l level n₀ n = ?
-
-add-n : tie.Need-add-n Inv-loop μ-loop
-add-n c = omega arith
+μ-loop l level n₀ n = suc level - n
 
 loop-holds : tie.Need-loop-holds Inv-loop μ-loop
-loop-holds c = omega arith
-
-is-held-requires : tie.Need-is-held-requires Inv-loop μ-loop
-is-held-requires c κs = omega arith
+loop-holds c = run-starts _ _ _
 
 returns : tie.Need-returns Inv-loop μ-loop
-returns c = omega arith
-
-add-n-2 : tie.Need-add-n-2 Inv-loop μ-loop
-add-n-2 c = omega arith
-
-loop-less : tie.Need-loop-less Inv-loop μ-loop
-loop-less c = omega arith
+unfolding heldToLevel
+returns c = run-stops _ _ _ _ (c .before .before .before .loop .inv) (c .before .before .loop-test .taken) (sym (c .before .is-held .ensures) ∙ not-true _ (c .if1 .taken))
 
 loop-again : tie.Need-loop-again Inv-loop μ-loop
-loop-again c = omega arith
+loop-again c = run-goes _ _ _ _ (c .before .before .before .loop .inv) (c .before .before .loop-test .taken) (sym (c .before .is-held .ensures) ∙ not-false _ (c .if1 .left))
 
 returns-2 : tie.Need-returns-2 Inv-loop μ-loop
-returns-2 c = omega arith
+unfolding heldToLevel
+returns-2 c = run-ends _ _ _ _ (c .before .loop .inv) (c .loop-test .left)
 
 pub held-to-level-spec : {M : Type 1} → statement M
 held-to-level-spec =
@@ -45,11 +34,11 @@ held-to-level-spec =
     (tie.spec
     Inv-loop
     μ-loop
-    add-n
+    (λ c. search needs)
     loop-holds
-    is-held-requires
+    (λ c κs. search needs)
     returns
-    add-n-2
-    loop-less
+    (λ c. search needs)
+    (λ c. search needs)
     loop-again
     returns-2)

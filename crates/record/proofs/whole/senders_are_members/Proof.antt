@@ -1,59 +1,46 @@
-use Prim.Native.Nat.{ℕ, _≤_, _<_, _+_, _*_, _-_}
-use mathlib.Core.Path.{_≡_, refl, sym, ap, _∙_}
-use mathlib.Core.List.{List, [], _∷_, _++_}
-use native.Mathlib.Omega.{arith}
-use lib.ListN.{length, getD, set, take, drop, length-set}
+use Prim.Native.Nat.{_-_}
+use lib.ListN.{length}
+use mathlib.Core.Bool.{_||_}
+use lib.Dec.{eqb}
+use borrow.Author.Needs.{needs}
+use borrow.Author.Tests.{not-true, not-false}
+use Rattle.words.proofs.ScanLaws.{Scanning, scan-starts, scan-stops, scan-goes, scan-ends}
+use Rattle.record.specs.Members.{isMember}
+use Rattle.record.specs.Whole.{sendersAreMembers}
+use Rattle.record.proofs.MemberLaws.{sender-tested}
 use Rattle.record.proofs.whole.senders_are_members.Statement.{statement}
 use Rattle.record.proofs.whole.senders_are_members.Tie as tie
-use Rattle.record.proofs.whole.senders_are_members.Reads as reads
-use Rattle.record.proofs.whole.senders_are_members.Lts as lts
-use Rattle.record.proofs.members.is_member.Reads as is-member-reads
 
 abbrev Inv-loop : tie.InvT-loop
-Inv-loop ids senders i₀ i = ?
+Inv-loop ids senders i₀ i = Scanning (λ x after. eqb x 0 || isMember ids x) senders i
 
 abbrev μ-loop : tie.MeasureT-loop
-μ-loop ids senders i₀ i = ?
+μ-loop ids senders i₀ i = length senders - i
 
 loop-holds : tie.Need-loop-holds Inv-loop μ-loop
-loop-holds c = omega arith
-
-mul-x : tie.Need-mul-x Inv-loop μ-loop
-mul-x c = omega arith
-
-shared-slice-read-x : tie.Need-shared-slice-read-x Inv-loop μ-loop
-shared-slice-read-x c = omega arith
-
-is-member-requires : tie.Need-is-member-requires Inv-loop μ-loop
-is-member-requires c κs = omega arith
+loop-holds c = scan-starts _ _
 
 returns : tie.Need-returns Inv-loop μ-loop
-returns c = omega arith
-
-add-i : tie.Need-add-i Inv-loop μ-loop
-add-i c = omega arith
-
-loop-less : tie.Need-loop-less Inv-loop μ-loop
-loop-less c = omega arith
+unfolding sendersAreMembers
+returns c =
+    scan-stops _ _ _
+    (c .before .before .before .before .loop .inv)
+    (c .before .before .before .loop-test .taken)
+    (sender-tested _ _ _ _ (c .before .is-member .ensures) (not-true _ (c .if1 .taken)))
 
 loop-again : tie.Need-loop-again Inv-loop μ-loop
-loop-again c = omega arith
+loop-again c =
+    scan-goes _ _ _
+    (c .before .before .before .before .loop .inv)
+    (c .before .before .before .loop-test .taken)
+    (sender-tested _ _ _ _ (c .before .is-member .ensures) (not-false _ (c .if1 .left)))
 
 returns-2 : tie.Need-returns-2 Inv-loop μ-loop
-returns-2 c = omega arith
+unfolding sendersAreMembers
+returns-2 c = scan-ends _ _ _ (c .before .loop .inv) (c .loop-test .left)
 
 pub senders-are-members-spec : {M : Type 1} → statement M
 senders-are-members-spec =
     tie.close
-    (tie.spec
-    Inv-loop
-    μ-loop
-    loop-holds
-    mul-x
-    shared-slice-read-x
-    is-member-requires
-    returns
-    add-i
-    loop-less
-    loop-again
-    returns-2)
+    (tie.spec Inv-loop μ-loop loop-holds (λ c. search needs) (λ c. search needs) (λ c κs. search needs) returns
+    (λ c. search needs) (λ c. search needs) loop-again returns-2)

@@ -1,0 +1,42 @@
+use mathlib.Core.Path.{_≡_}
+use native.Mathlib.Omega.{arith}
+use lib.ListN.{length}
+use borrow.Author.Needs.{needs}
+use Rattle.record.specs.Size.{mostMembers}
+use Rattle.record.proofs.WholeLaws.{members-tested}
+use Rattle.record.proofs.whole.members_agree.Statement.{statement}
+use Rattle.record.proofs.whole.members_agree.Tie as tie
+
+part-ids-end : tie.Need-part-ids-end
+part-ids-end c =
+    let start = c .before .before .before .before in
+    let members = start .good .0 .1 .1 .1 .0 .1 .1 .1 .1 .0 in
+    let long : length (start .args .r .log .members) ≡ mostMembers = search needs in
+    omega (arith, long, start .pre .0)
+
+slice-aggregate-senders-are-members : tie.Need-slice-aggregate-senders-are-members
+slice-aggregate-senders-are-members c =
+    let held = c .before .before .before .before .before .before .good .0 .1 .1 .1 .0 .1 .1 .1 .1 .1 .1 .1 .1 .0 in
+    let senders = held .1 .1 .0 in
+    search needs
+
+returns : tie.Need-returns
+returns c =
+    let start = c .before .before .before .before .before .before .before .before .before in
+    members-tested (start .args .r) _ _ _
+    (c .before .before .senders-are-members .ensures)
+    (c .before .leave-is-good .ensures) (c .foundable-by .ensures)
+
+pub members-agree-spec : {M : Type 1} → statement M
+members-agree-spec =
+    tie.close
+    (tie.spec
+    (λ c. search needs)
+    (λ c. search needs)
+    (λ c. search needs)
+    part-ids-end
+    slice-aggregate-senders-are-members
+    (λ c κs. search needs)
+    (λ c κs. search needs)
+    (λ c κs. search needs)
+    returns)

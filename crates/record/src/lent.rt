@@ -1,0 +1,27 @@
+// A record lent as bytes.
+ghost use mathlib.Core.Path.{_≡_};
+ghost use Rattle.record.specs.Lent.{noRecord, lent};
+use crate::Record;
+use crate::bytes;
+use crate::fresh;
+use crate::layout;
+use frames::RingNumber;
+
+// The record of nobody, which isn't whole.
+pub fn no_record() -> Record
+    ensures { λ r. ⌜ r ≡ noRecord ⌝ }
+{
+    let ids = [0u16; 1];
+    fresh::fresh_record(&ids[0..0], 0, RingNumber(0))
+}
+
+// The record in lent bytes, of nobody where their number isn't RECORD_SIZE. Ruled out: the front of a
+// longer slice taken for a record; a short slice filled up.
+pub fn record_in(s: &[u8]) -> Record
+    ensures { λ r. ⌜ r ≡ lent (now (s .entry)) ⌝ }
+{
+    if s.len() != layout::RECORD_SIZE {
+        return no_record();
+    }
+    bytes::decode(s)
+}

@@ -1,0 +1,106 @@
+// The calls for hosts in C: thin functions on numbers and byte slices (a pointer and a length each).
+// include/totem.h declares and documents them. A refusal writes no lent byte.
+ghost use mathlib.Core.Path.{_≡_};
+ghost use mathlib.Core.Bool.{true};
+ghost use Prim.Native.Nat.{_≤_};
+ghost use mathlib.Core.Bool.{cond};
+ghost use mathlib.Core.List.{_++_};
+ghost use lib.ListN.{length, drop};
+ghost use lib.Dec.{leb};
+ghost use Rattle.frames.specs.Layout.{shortestToken};
+ghost use Rattle.record.specs.Layout.{recordSize};
+ghost use Rattle.record.specs.Bytes.{recordBytes};
+ghost use Rattle.record.specs.Lent.{noRecord};
+ghost use Rattle.station.specs.Answer.{outcomeOf};
+ghost use Rattle.station.specs.Reply.{doneOf, over};
+ghost use Rattle.station.specs.Found.{founded};
+ghost use Rattle.totem.specs.Over.{idsIn, taken, stationAfter, foundOver, postOver, resendOver};
+use frames::RingNumber;
+use station::Answer;
+use station::Done;
+use station::Outcome;
+use station::Refusal;
+
+fn is_taken(a: Answer) -> bool
+    ensures { λ r. ⌜ r ≡ taken a ⌝ }
+{
+    match a {
+        Answer::Refused(_) => false,
+        Answer::Founded => true,
+        Answer::Posted => true,
+        Answer::Resent(_) => true,
+    }
+}
+
+// The record back into the bytes that were lent, unless the call was refused.
+fn put_back(bytes: &mut [u8], done: Done)
+    requires { ⌜ taken (done .answer) ≡ true → recordSize ≤ length (now bytes) ⌝ }
+    ensures { λ _. ⌜ now (bytes .exit) ≡ cond (taken (done .answer)) (recordBytes (done .rec) ++ drop recordSize (now (bytes .entry))) (now (bytes .entry)) ⌝ }
+{
+    if is_taken(station::answer_of(done)) {
+        record::encode(station::rec_of(done), bytes);
+    }
+}
+
+// How many ids a list of members has; 0 where it is no list of at most 8.
+fn count_in(members: &[u8]) -> usize {
+    let n = members.len();
+    if (n % 2 == 0) & (n <= 2 * record::MOST_MEMBERS) {
+        n / 2
+    } else {
+        0
+    }
+}
+
+fn found_by(members: &[u8], own: u16, ring: u32, token: &mut [u8]) -> Done
+    ensures { λ r. ⌜ (r ≡ doneOf (founded noRecord (leb shortestToken (length (now (token .entry)))) (idsIn (now (members .entry))) own ring)) × (now (token .exit) ≡ over ((founded noRecord (leb shortestToken (length (now (token .entry)))) (idsIn (now (members .entry))) own ring) .frames) (now (token .entry))) ⌝ }
+{
+    let mut ids = [0u16; record::MOST_MEMBERS];
+    let n = count_in(members);
+    words::get_u16s(members, 0, n, &mut ids);
+    station::found_step(
+        record::no_record(),
+        &ids[0..n],
+        own,
+        RingNumber(ring),
+        token,
+    )
+}
+
+// Founding. Ruled out: a record written with a refusal; an odd list read as a shorter one.
+#[no_mangle]
+pub extern "C" fn totem_found(
+    bytes: &mut [u8],
+    members: &[u8],
+    own: u16,
+    ring: u32,
+    token: &mut [u8],
+) -> Outcome
+    ensures { λ r. ⌜ (r ≡ outcomeOf (foundOver (now (bytes .entry)) (now (members .entry)) own ring (length (now (token .entry))) .answer)) × (now (bytes .exit) ≡ stationAfter (foundOver (now (bytes .entry)) (now (members .entry)) own ring (length (now (token .entry)))) (now (bytes .entry))) × (now (token .exit) ≡ over (foundOver (now (bytes .entry)) (now (members .entry)) own ring (length (now (token .entry))) .frames) (now (token .entry))) ⌝ }
+{
+    if bytes.len() < record::RECORD_SIZE {
+        return station::outcome_of(Answer::Refused(Refusal::NoRoom));
+    }
+    let done = found_by(members, own, ring, token);
+    put_back(bytes, done);
+    station::outcome_of(station::answer_of(done))
+}
+
+// Posting. Ruled out: 9 with an empty queue; a record of another length taken.
+#[no_mangle]
+pub extern "C" fn totem_post(bytes: &mut [u8], service: u16, content: &[u8]) -> Outcome
+    ensures { λ r. ⌜ (r ≡ outcomeOf (postOver (now (bytes .entry)) service (now (content .entry)) .answer)) × (now (bytes .exit) ≡ stationAfter (postOver (now (bytes .entry)) service (now (content .entry))) (now (bytes .entry))) ⌝ }
+{
+    let done = station::post_step(record::record_in(bytes), service, content);
+    put_back(bytes, done);
+    station::outcome_of(station::answer_of(done))
+}
+
+// Resending. Ruled out: another token written; 2 where the buffer is too small already.
+#[no_mangle]
+pub extern "C" fn totem_resend(bytes: &[u8], frames: &mut [u8]) -> Outcome
+    ensures { λ r. ⌜ (r ≡ outcomeOf (resendOver (now (bytes .entry)) (length (now (frames .entry))) .answer)) × (now (frames .exit) ≡ over (resendOver (now (bytes .entry)) (length (now (frames .entry))) .frames) (now (frames .entry))) ⌝ }
+{
+    let done = station::resend_step(record::record_in(bytes), frames);
+    station::outcome_of(station::answer_of(done))
+}
