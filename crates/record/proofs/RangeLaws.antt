@@ -18,18 +18,31 @@ use Rattle.record.specs.declared.turn.Turn.{Turn}
 use Rattle.record.specs.declared.posts.Posts.{Posts}
 use Rattle.record.specs.declared.Record.{Record}
 
+-- all are at most what each is at most
 pub most-within : (high : ℕ) (s : List ℕ) → ((i : ℕ) → getD s i 0 ≤ high) → allWithin 0 high s ≡ true
 unfolding every
 most-within high [] p = refl
 most-within high (x ∷ s) p = rw (le-leb 0 x (omega arith), le-leb x high (p 0), most-within high s (λ i. p (suc i)))
 
-pub held-tested : (h : Held) → length (h .senders) ≡ mostHeld → length (h .services) ≡ mostHeld → length (h .lengths) ≡ mostHeld → length (h .contents) ≡ heldContents
+pub held-tested : (h : Held)
+    → length (h .senders) ≡ mostHeld
+    → length (h .services) ≡ mostHeld
+    → length (h .lengths) ≡ mostHeld
+    → length (h .contents) ≡ heldContents
     → ((i : ℕ) → getD (h .senders) i 0 ≤ mostId)
     → (a b : Bool) → a ≡ allWithin 0 mostService (h .services) → b ≡ allWithin 0 mostContent (h .lengths)
     → (a && b) ≡ heldInRange h
 unfolding heldInRange
 held-tested h e1 e2 e3 e4 p a b ea eb =
-    rw (eq-eqb (length (h .senders)) mostHeld e1, eq-eqb (length (h .services)) mostHeld e2, eq-eqb (length (h .lengths)) mostHeld e3, eq-eqb (length (h .contents)) heldContents e4, most-within mostId (h .senders) p, ← ea, ← eb)
+    rw (
+      eq-eqb (length (h .senders)) mostHeld e1,
+      eq-eqb (length (h .services)) mostHeld e2,
+      eq-eqb (length (h .lengths)) mostHeld e3,
+      eq-eqb (length (h .contents)) heldContents e4,
+      most-within mostId (h .senders) p,
+      ea,
+      eb,
+    )
 
 -- the safe mark is tested first
 pub safe-refused : (l : Log) → leb (l .safe .0) mostNumber ≡ false → false ≡ logInRange l
@@ -43,7 +56,12 @@ unfolding logInRange
 log-tested l e1 e2 a b ea eb = rw (eq-eqb (length (l .members)) mostMembers e1, e2, ea, eb, and-true)
 
 pub turn-tested : (t : Turn) → length (t .token) ≡ longestToken → t .stall ≤ mostStall
-    → (leb (t .aru .0) mostNumber && leb (t .earlier .0) mostNumber && leb (t .number .0) mostNumber && leb (t .broadcast) mostBroadcasts && leb (t .size) longestToken) ≡ turnInRange t
+    → (leb (t .aru .0) mostNumber
+    && leb (t .earlier .0) mostNumber
+    && leb (t .number .0) mostNumber
+    && leb (t .broadcast) mostBroadcasts
+    && leb (t .size) longestToken)
+    ≡ turnInRange t
 unfolding turnInRange
 turn-tested t e h = rw (eq-eqb (length (t .token)) longestToken e, le-leb (t .stall) mostStall h, and-true)
 

@@ -1,13 +1,14 @@
--- Zero from a place on.
-use Prim.Native.Nat.{ℕ, zero, suc, _+_, _-_, _<_}
+-- A part not in use: zero from a place on.
+use Prim.Native.Nat.{ℕ, zero, suc, _+_, _*_, _-_, _<_}
 use mathlib.Core.Path.{_≡_, refl, sym}
 use mathlib.Core.Bool.{Bool, true}
 use mathlib.Core.List.{List, [], _∷_}
 use native.Mathlib.Omega.{arith}
-use native.Mathlib.Nat.{sub-zero, zero-sub, suc-sub-suc}
-use lib.ListN.{length, take, drop, drop-of-length-le}
+use native.Mathlib.Nat.{zero-add, sub-zero, zero-sub, suc-sub-suc}
+use lib.ListN.{length, getD, take, drop, drop-of-length-le}
 use lib.Seq.{drop-drop}
 use Rattle.words.specs.Scan.{every, allZero}
+use Rattle.frames.specs.Layout.{mostContent}
 
 -- nothing stands past the end
 pub past-end : (s : List ℕ) (n : ℕ) → length s < n → true ≡ allZero (drop n s)
@@ -26,8 +27,16 @@ drop-taken (suc n) zero s = rw (zero-sub (suc n))
 drop-taken (suc n) (suc m) [] = sym (take-none (suc m - suc n))
 drop-taken (suc n) (suc m) (x ∷ s) = rw (suc-sub-suc m n) (drop-taken n m s)
 
--- what is past the first n of m bytes from a place on, as the code spells it
-pub past-length : (s : List ℕ) (at m n : ℕ) (r : Bool) → r ≡ allZero (drop n (take (at + m - at) (drop at s))) → allZero (take (m - n) (drop (at + n) s)) ≡ r
-past-length s at m n r e =
-    let z : at + m - at ≡ m = omega arith in
-    sym (rw (z, drop-taken n m (drop at s), drop-drop n at s) at e)
+-- the bytes past the length of the content at a place
+abbrev pub padded : List ℕ → List ℕ → ℕ → Bool
+padded lengths contents place = allZero (take (mostContent - getD lengths place 0) (drop (mostContent * place + getD lengths place 0) contents))
+
+-- as the code spells them
+pub padding-tested : (lengths contents : List ℕ) (i : ℕ) (r : Bool)
+    → r ≡ allZero (drop (getD lengths i 0) (take (mostContent * i + mostContent - mostContent * i) (drop (mostContent * i) contents)))
+    → padded lengths contents (0 + i) ≡ r
+padding-tested lengths contents i r e =
+    let n = getD lengths i 0 in
+    let at = mostContent * i in
+    let z : at + mostContent - at ≡ mostContent = omega arith in
+    rw (zero-add i) (sym (rw (z, drop-taken n mostContent (drop at contents), drop-drop n at contents) at e))

@@ -21,11 +21,5 @@ returns c = rw (c .before .before .before .before .zero-from-u16 .ensures, c .be
 pub log-unused-zero-spec : {M : Type 1} → statement M
 log-unused-zero-spec =
     tie.close
-    (tie.spec
-    (λ c. search needs)
-    (λ c κs. search needs)
-    (λ c κs. search needs)
-    (λ c. search needs)
-    (λ c. search needs)
-    contents-padded-requires
-    returns)
+    (tie.spec (λ c. search needs) (λ c κs. search needs) (λ c κs. search needs) (λ c. search needs)
+    (λ c. search needs) contents-padded-requires returns)

@@ -13,9 +13,5 @@ returns c = rw (c .before .before .before .log-unused-zero .ensures, c .before .
 pub unused-zero-spec : {M : Type 1} → statement M
 unused-zero-spec =
     tie.close
-    (tie.spec
-    (λ c κs. search needs)
-    (λ c κs. search needs)
-    slice-aggregate-zero-from-u8
-    (λ c κs. search needs)
+    (tie.spec (λ c κs. search needs) (λ c κs. search needs) slice-aggregate-zero-from-u8 (λ c κs. search needs)
     returns)

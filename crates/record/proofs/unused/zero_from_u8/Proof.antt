@@ -13,10 +13,4 @@ returns-2 c = rw to-end at (c .all-zero-u8 .ensures)
 pub zero-from-u8-spec : {M : Type 1} → statement M
 zero-from-u8-spec =
     tie.close
-    (tie.spec
-    returns
-    (λ c. search needs)
-    (λ c. search needs)
-    (λ c. search needs)
-    (λ c κs. search needs)
-    returns-2)
+    (tie.spec returns (λ c. search needs) (λ c. search needs) (λ c. search needs) (λ c κs. search needs) returns-2)

@@ -31,14 +31,5 @@ returns-2 c = run-ends _ _ _ _ (c .before .loop .inv) (c .loop-test .left)
 pub held-to-level-spec : {M : Type 1} → statement M
 held-to-level-spec =
     tie.close
-    (tie.spec
-    Inv-loop
-    μ-loop
-    (λ c. search needs)
-    loop-holds
-    (λ c κs. search needs)
-    returns
-    (λ c. search needs)
-    (λ c. search needs)
-    loop-again
-    returns-2)
+    (tie.spec Inv-loop μ-loop (λ c. search needs) loop-holds (λ c κs. search needs) returns (λ c. search needs)
+    (λ c. search needs) loop-again returns-2)

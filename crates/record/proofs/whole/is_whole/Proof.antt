@@ -26,10 +26,5 @@ returns-2 c =
 pub is-whole-spec : {M : Type 1} → statement M
 is-whole-spec =
     tie.close
-    (tie.spec
-    (λ c κs. search needs)
-    returns
-    members-agree-requires
-    marks-agree-requires
-    (λ c κs. search needs)
+    (tie.spec (λ c κs. search needs) returns members-agree-requires marks-agree-requires (λ c κs. search needs)
     returns-2)

@@ -10,9 +10,4 @@ returns c = rw (c .before .before .before .marks-in-order .ensures, c .before .b
 pub marks-agree-spec : {M : Type 1} → statement M
 marks-agree-spec =
     tie.close
-    (tie.spec
-    (λ c κs. search needs)
-    (λ c κs. search needs)
-    (λ c κs. search needs)
-    (λ c κs. search needs)
-    returns)
+    (tie.spec (λ c κs. search needs) (λ c κs. search needs) (λ c κs. search needs) (λ c κs. search needs) returns)

@@ -30,13 +30,5 @@ returns c =
 pub members-agree-spec : {M : Type 1} → statement M
 members-agree-spec =
     tie.close
-    (tie.spec
-    (λ c. search needs)
-    (λ c. search needs)
-    (λ c. search needs)
-    part-ids-end
-    slice-aggregate-senders-are-members
-    (λ c κs. search needs)
-    (λ c κs. search needs)
-    (λ c κs. search needs)
-    returns)
+    (tie.spec (λ c. search needs) (λ c. search needs) (λ c. search needs) part-ids-end
+    slice-aggregate-senders-are-members (λ c κs. search needs) (λ c κs. search needs) (λ c κs. search needs) returns)

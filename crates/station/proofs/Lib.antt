@@ -1,0 +1,5 @@
+pub mod ReplyLaws
+pub mod PostLaws
+pub mod ResendLaws
+pub mod FoundLaws
+pub mod Trials

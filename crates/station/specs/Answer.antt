@@ -1,0 +1,18 @@
+-- An answer in document 01's terms: the question that is answered 'no', what happened, the output counts in bytes, and the id in the
+-- notice 'deaf'. [document 01, Questions at the door]
+use Prim.Native.Nat.{ℕ}
+use Rattle.frames.specs.Layout.{shortestToken}
+use Rattle.station.specs.Refusal.{refusalNumber}
+use Rattle.station.specs.declared.answer.Answer.{Answer}
+use Rattle.station.specs.declared.answer.Answer.the-variants.{Refused, Founded, Posted, Resent}
+use Rattle.station.specs.declared.answer.Outcome.{Outcome}
+
+-- nothing is refused: what happened, and the counts
+abbrev pub happened : ℕ → ℕ → Outcome
+happened outcome frames = record { refusal = 0; outcome = outcome; frames = frames; deliveries = 0; deaf = 0 }
+
+abbrev pub outcomeOf : Answer → Outcome
+outcomeOf (Refused why) = record { refusal = refusalNumber why; outcome = 0; frames = 0; deliveries = 0; deaf = 0 }
+outcomeOf Founded = happened 1 shortestToken
+outcomeOf Posted = happened 2 0
+outcomeOf (Resent n) = happened 7 n

@@ -1,0 +1,8 @@
+pub mod Refusal
+pub mod Answer
+pub mod Reply
+pub mod Found
+pub mod Post
+pub mod Resend
+pub mod Kept
+pub mod Trials

@@ -1,0 +1,64 @@
+// What a call answers, and the same in document 01's numbers.
+ghost use mathlib.Core.Path.{_≡_};
+ghost use Rattle.station.specs.Answer.{outcomeOf};
+use crate::refusal;
+use crate::refusal::Refusal;
+
+pub enum Answer {
+    Refused(Refusal),
+    // The ring's first token is written out.
+    Founded,
+    Posted,
+    // The remembered token is written out, this many bytes.
+    Resent(u8),
+}
+
+// The answer in numbers, as hosts in C get it.
+#[repr(C)]
+pub struct Outcome {
+    // The question that was answered 'no', or 0.
+    pub refusal: u16,
+    // What happened: 0 with a refusal, else 1 founded, 2 posted, 7 resent.
+    pub outcome: u16,
+    // Output counts, in bytes.
+    pub frames: u16,
+    pub deliveries: u16,
+    // The id in the notice 'deaf', or 0.
+    pub deaf: u16,
+}
+
+// Ruled out: a count with a refusal; a refusal that reads like an outcome.
+pub fn outcome_of(a: Answer) -> Outcome
+    ensures { λ r. ⌜ r ≡ outcomeOf a ⌝ }
+{
+    match a {
+        Answer::Refused(why) => Outcome {
+            refusal: refusal::refusal_number(why),
+            outcome: 0,
+            frames: 0,
+            deliveries: 0,
+            deaf: 0,
+        },
+        Answer::Founded => Outcome {
+            refusal: 0,
+            outcome: 1,
+            frames: frames::SHORTEST_TOKEN as u16,
+            deliveries: 0,
+            deaf: 0,
+        },
+        Answer::Posted => Outcome {
+            refusal: 0,
+            outcome: 2,
+            frames: 0,
+            deliveries: 0,
+            deaf: 0,
+        },
+        Answer::Resent(n) => Outcome {
+            refusal: 0,
+            outcome: 7,
+            frames: n as u16,
+            deliveries: 0,
+            deaf: 0,
+        },
+    }
+}
