@@ -2,4 +2,5 @@ pub mod ReplyLaws
 pub mod PostLaws
 pub mod ResendLaws
 pub mod FoundLaws
+pub mod KeptLaws
 pub mod Trials

@@ -10,11 +10,11 @@ use Rattle.frames.specs.Layout.{shortestToken}
 use Rattle.record.specs.Layout.{recordSize}
 use Rattle.record.specs.Bytes.{recordBytes}
 use Rattle.record.specs.Lent.{noRecord, lent}
-use Rattle.record.specs.declared.Record.{Record}
 use Rattle.station.specs.Reply.{Reply}
 use Rattle.station.specs.Found.{founded}
 use Rattle.station.specs.Post.{posted}
 use Rattle.station.specs.Resend.{resent}
+use Rattle.station.specs.declared.done.Done.{Done}
 use Rattle.station.specs.declared.answer.Answer.{Answer}
 use Rattle.station.specs.declared.answer.Answer.the-variants.{Refused, Founded, Posted, Resent}
 
@@ -29,8 +29,12 @@ taken Posted = true
 taken (Resent n) = true
 
 -- the station's bytes after a call: those of its record, followed by what stood after them; a refusal leaves every byte as it was
-abbrev pub stationAfter : Reply → List ℕ → List ℕ
-stationAfter reply s = cond (taken (reply .answer)) (recordBytes (reply .rec) ++ drop recordSize s) s
+abbrev pub stationAfter : Done → List ℕ → List ℕ
+stationAfter done s = cond (taken (done .answer)) (recordBytes (done .rec) ++ drop recordSize s) s
+
+-- founding where the record's bytes have room; there is no record before it
+abbrev pub foundBy : List ℕ → ℕ → ℕ → ℕ → Reply
+foundBy ids own ring room = founded noRecord (leb shortestToken room) ids own ring
 
 -- 1 asks here for the record's length and 30 bytes for the token
 unfoldable pub foundOver : List ℕ → List ℕ → ℕ → ℕ → ℕ → Reply

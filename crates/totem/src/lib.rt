@@ -3,18 +3,12 @@
 ghost use mathlib.Core.Path.{_≡_};
 ghost use mathlib.Core.Bool.{true};
 ghost use Prim.Native.Nat.{_≤_};
-ghost use mathlib.Core.Bool.{cond};
-ghost use mathlib.Core.List.{_++_};
-ghost use lib.ListN.{length, drop};
-ghost use lib.Dec.{leb};
-ghost use Rattle.frames.specs.Layout.{shortestToken};
+ghost use mathlib.Core.List.{[]};
+ghost use lib.ListN.{length};
 ghost use Rattle.record.specs.Layout.{recordSize};
-ghost use Rattle.record.specs.Bytes.{recordBytes};
-ghost use Rattle.record.specs.Lent.{noRecord};
 ghost use Rattle.station.specs.Answer.{outcomeOf};
 ghost use Rattle.station.specs.Reply.{doneOf, over};
-ghost use Rattle.station.specs.Found.{founded};
-ghost use Rattle.totem.specs.Over.{idsIn, taken, stationAfter, foundOver, postOver, resendOver};
+ghost use Rattle.totem.specs.Over.{idsIn, taken, stationAfter, foundBy, foundOver, postOver, resendOver};
 use frames::RingNumber;
 use station::Answer;
 use station::Done;
@@ -34,29 +28,39 @@ fn is_taken(a: Answer) -> bool
 
 // The record back into the bytes that were lent, unless the call was refused.
 fn put_back(bytes: &mut [u8], done: Done)
-    requires { ⌜ taken (done .answer) ≡ true → recordSize ≤ length (now bytes) ⌝ }
-    ensures { λ _. ⌜ now (bytes .exit) ≡ cond (taken (done .answer)) (recordBytes (done .rec) ++ drop recordSize (now (bytes .entry))) (now (bytes .entry)) ⌝ }
+    requires { ⌜ (taken (done .answer) ≡ true → recordSize ≤ length (now bytes)) ⌝ }
+    ensures { λ _. ⌜ now (bytes .exit) ≡ stationAfter done (now (bytes .entry)) ⌝ }
 {
     if is_taken(station::answer_of(done)) {
         record::encode(station::rec_of(done), bytes);
     }
 }
 
-// How many ids a list of members has; 0 where it is no list of at most 8.
-fn count_in(members: &[u8]) -> usize {
-    let n = members.len();
-    if (n % 2 == 0) & (n <= 2 * record::MOST_MEMBERS) {
-        n / 2
-    } else {
-        0
-    }
+// A list of members that has none, or more than a ring can have.
+fn found_by_none(own: u16, ring: u32, token: &mut [u8]) -> Done
+    ensures { λ r. ⌜ (r ≡ doneOf (foundBy [] own ring (length (now (token .entry))))) × (now (token .exit) ≡ over (foundBy [] own ring (length (now (token .entry))) .frames) (now (token .entry))) ⌝ }
+{
+    let ids = [0u16; 1];
+    station::found_step(
+        record::no_record(),
+        &ids[0..0],
+        own,
+        RingNumber(ring),
+        token,
+    )
 }
 
 fn found_by(members: &[u8], own: u16, ring: u32, token: &mut [u8]) -> Done
-    ensures { λ r. ⌜ (r ≡ doneOf (founded noRecord (leb shortestToken (length (now (token .entry)))) (idsIn (now (members .entry))) own ring)) × (now (token .exit) ≡ over ((founded noRecord (leb shortestToken (length (now (token .entry)))) (idsIn (now (members .entry))) own ring) .frames) (now (token .entry))) ⌝ }
+    ensures { λ r. ⌜ (r ≡ doneOf (foundBy (idsIn (now (members .entry))) own ring (length (now (token .entry))))) × (now (token .exit) ≡ over (foundBy (idsIn (now (members .entry))) own ring (length (now (token .entry))) .frames) (now (token .entry))) ⌝ }
 {
     let mut ids = [0u16; record::MOST_MEMBERS];
-    let n = count_in(members);
+    let n = members.len() / 2;
+    if members.len() != 2 * n {
+        return found_by_none(own, ring, token);
+    }
+    if record::MOST_MEMBERS < n {
+        return found_by_none(own, ring, token);
+    }
     words::get_u16s(members, 0, n, &mut ids);
     station::found_step(
         record::no_record(),
@@ -76,7 +80,7 @@ pub extern "C" fn totem_found(
     ring: u32,
     token: &mut [u8],
 ) -> Outcome
-    ensures { λ r. ⌜ (r ≡ outcomeOf (foundOver (now (bytes .entry)) (now (members .entry)) own ring (length (now (token .entry))) .answer)) × (now (bytes .exit) ≡ stationAfter (foundOver (now (bytes .entry)) (now (members .entry)) own ring (length (now (token .entry)))) (now (bytes .entry))) × (now (token .exit) ≡ over (foundOver (now (bytes .entry)) (now (members .entry)) own ring (length (now (token .entry))) .frames) (now (token .entry))) ⌝ }
+    ensures { λ r. ⌜ (r ≡ outcomeOf (foundOver (now (bytes .entry)) (now (members .entry)) own ring (length (now (token .entry))) .answer)) × (now (bytes .exit) ≡ stationAfter (doneOf (foundOver (now (bytes .entry)) (now (members .entry)) own ring (length (now (token .entry))))) (now (bytes .entry))) × (now (token .exit) ≡ over (foundOver (now (bytes .entry)) (now (members .entry)) own ring (length (now (token .entry))) .frames) (now (token .entry))) ⌝ }
 {
     if bytes.len() < record::RECORD_SIZE {
         return station::outcome_of(Answer::Refused(Refusal::NoRoom));
@@ -89,7 +93,7 @@ pub extern "C" fn totem_found(
 // Posting. Ruled out: 9 with an empty queue; a record of another length taken.
 #[no_mangle]
 pub extern "C" fn totem_post(bytes: &mut [u8], service: u16, content: &[u8]) -> Outcome
-    ensures { λ r. ⌜ (r ≡ outcomeOf (postOver (now (bytes .entry)) service (now (content .entry)) .answer)) × (now (bytes .exit) ≡ stationAfter (postOver (now (bytes .entry)) service (now (content .entry))) (now (bytes .entry))) ⌝ }
+    ensures { λ r. ⌜ (r ≡ outcomeOf (postOver (now (bytes .entry)) service (now (content .entry)) .answer)) × (now (bytes .exit) ≡ stationAfter (doneOf (postOver (now (bytes .entry)) service (now (content .entry)))) (now (bytes .entry))) ⌝ }
 {
     let done = station::post_step(record::record_in(bytes), service, content);
     put_back(bytes, done);

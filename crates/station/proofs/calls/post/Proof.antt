@@ -173,20 +173,20 @@ module _ {M : Type 1} (𝓤 : URA M) (H : Heap 𝓤) (A : Atoms 𝓤) (W : Given
         opens ! tt R {h = h} b o (λ vs. spelt ! R (Is R) (shows 𝓤 H A R) (λ d. low d ∷ []) low-is fullShare h vs b o $ move ! (1 ∷ []) $ peeks ! R (Is R) (shows 𝓤 H A R) h (low h ∷ []) (λ g. move ! (1 ∷ 0 ∷ []) $
         assigns ! (of-opd ! (load ! (from ! (hop ! (look ! 15 refl) (stop !))) (look-raw ! 0 refl))) (from ! (stop !)) (init ! 7 refl (LL.lawful T.the-type T′.the-laws 𝓤 H A W .typed h _ g .0)) $ move ! (1 ∷ 5 ∷ 6 ∷ []) $
         use3 W (raw (Step 𝓤 H A at-mem run .pre to) ⊛ ‵ Own₂) asked $ split ! $
-        calls-at ! fm (Step 𝓤 H A at-mem run) known to (and-then ! (load ! (from ! (stop !)) (look ! 6 refl)) (and-then ! (load ! (from ! (stop !)) (look ! 12 refl)) (and-then ! (load ! (from ! (stop !)) (look ! 10 refl)) (no-more !)))) (λ w. 
+        calls-at ! fm (Step 𝓤 H A at-mem run) known to (and-then ! (load ! (from ! (stop !)) (look ! 6 refl)) (and-then ! (load ! (from ! (stop !)) (look ! 12 refl)) (and-then ! (load ! (from ! (stop !)) (look ! 10 refl)) (no-more !)))) (λ w.
         use1 W (later (some (λ (r : Done). (Toks ⊛ ‵ (P.the-row .own r (w ∷ []))) ⊛ raw (ensured 𝓤 H A step.ended (step.clauses 𝓤 H A at-mem run) (κ₁, tt) (h, (x₁, (x₂, tt))) tt r)))) (id⊢ 𝓤 _) $ await ! tt $ pick ! (λ r. split ! $ move ! (1 ∷ []) $
         use1 W (some (λ (zs : Lasts). ‵ (lasts step.ended (κ₁, tt) (h, (x₁, (x₂, tt))) zs) ⊛ raw (fact 𝓤 (Said r)))) (id⊢ 𝓤 _) $ pick ! (λ zs. split ! $ move ! (1 ∷ []) $ heard ! (Said r) (λ e. fsplit ! $ move ! (1 ∷ []) $ fsplit ! $ move ! (1 ∷ []) $ fsplit ! $ move ! (4 ∷ []) $ split ! $ move ! (1 ∷ []) $
-        peeks ! P.the-row (Is P.the-row) (shows 𝓤 H A P.the-row) r (w ∷ []) (λ is. 
+        peeks ! P.the-row (Is P.the-row) (shows 𝓤 H A P.the-row) r (w ∷ []) (λ is.
         land ! (from ! (stop !)) (init ! 13 refl (LL.lawful P.the-type P′.the-laws 𝓤 H A W .typed r _ is .0)) $ use1 W (raw (RecOf 𝓤 H A at-mem run .pre (to-rec r w))) (goes-rec r w) $
-        calls-at ! fm (RecOf 𝓤 H A at-mem run) known-rec (to-rec r w) (and-then ! (load ! (from ! (stop !)) (look ! 13 refl)) (no-more !)) (λ w₁. 
+        calls-at ! fm (RecOf 𝓤 H A at-mem run) known-rec (to-rec r w) (and-then ! (load ! (from ! (stop !)) (look ! 13 refl)) (no-more !)) (λ w₁.
         use1 W (later (some (λ (d : Record). (‵ ftrue ⊛ ‵ (R .own d (w₁ ∷ []))) ⊛ raw (ensured 𝓤 H A rec-of.ended (rec-of.clauses 𝓤 H A at-mem run) tt (r, tt) tt d)))) (id⊢ 𝓤 _) $ await ! tt $ pick ! (λ d. split ! $ move ! (1 ∷ []) $ use1 W (raw (fact 𝓤 (d ≡ r .rec))) (rec-said r d) $ heard ! (d ≡ r .rec) (λ e₁. split ! $ drop ! $
-        peeks ! R (Is R) (shows 𝓤 H A R) d (w₁ ∷ []) (λ is₁. 
+        peeks ! R (Is R) (shows 𝓤 H A R) d (w₁ ∷ []) (λ is₁.
         land ! (from ! (stop !)) (store ! 11 refl (LL.lawful T.the-type T′.the-laws 𝓤 H A W .typed d _ is₁ .0)) $
         assigns ! (of-opd ! (load ! (from ! (stop !)) (look ! 11 refl))) (from ! (hop ! (look ! 19 refl) (stop !))) (store-raw ! 7 refl (LL.lawful T.the-type T′.the-laws 𝓤 H A W .typed d _ is₁ .0)) $
         owned ! P.the-row (Is P.the-row) (LL.makes P.the-type P′.the-plain 𝓤 H A) r (w ∷ []) is $ use1 W (raw (AnswerOf 𝓤 H A at-mem run .pre (to-answer r w))) (goes-answer r w) $
-        calls-at ! fm (AnswerOf 𝓤 H A at-mem run) known-answer (to-answer r w) (and-then ! (load ! (from ! (stop !)) (look ! 14 refl)) (no-more !)) (λ w₂. 
+        calls-at ! fm (AnswerOf 𝓤 H A at-mem run) known-answer (to-answer r w) (and-then ! (load ! (from ! (stop !)) (look ! 14 refl)) (no-more !)) (λ w₂.
         use1 W (later (some (λ (t : Answer). (‵ ftrue ⊛ ‵ (N.the-row .own t (w₂ ∷ []))) ⊛ raw (ensured 𝓤 H A answer-of.ended (answer-of.clauses 𝓤 H A at-mem run) tt (r, tt) tt t)))) (id⊢ 𝓤 _) $ await ! tt $ pick ! (λ t. split ! $ move ! (1 ∷ []) $ use1 W (raw (fact 𝓤 (t ≡ r .answer))) (answer-said r t) $ heard ! (t ≡ r .answer) (λ e₂. split ! $ drop ! $
-        peeks ! N.the-row (Is N.the-row) (shows 𝓤 H A N.the-row) t (w₂ ∷ []) (λ is₂. 
+        peeks ! N.the-row (Is N.the-row) (shows 𝓤 H A N.the-row) t (w₂ ∷ []) (λ is₂.
         land ! (from ! (stop !)) (init ! 22 refl (EL.lawful N.the-type N′.the-laws 𝓤 H A W tt .typed t _ is₂ .0)) $ move ! (8 ∷ 1 ∷ 9 ∷ 10 ∷ 11 ∷ []) $
         closes ! tt R d (w₁ ∷ []) b o $
         returns ! (look ! 20 refl) $ forget ! 10 refl $ forget ! 12 refl $ forget ! 14 refl $ forget ! 16 refl $ forget ! 18 refl $ forget ! 20 refl $ move ! (20 ∷ 21 ∷ []) $ free1 ! $ move ! (18 ∷ 19 ∷ []) $ free1 ! $ move ! (16 ∷ 17 ∷ []) $ free1 ! $ move ! (14 ∷ 15 ∷ []) $ free1 ! $ move ! (12 ∷ 13 ∷ []) $ free1 ! $ move ! (10 ∷ 11 ∷ []) $ free1 ! $ free0 ! $

@@ -1,0 +1,158 @@
+-- The calls over C do what the station's definitions say on the record in the lent bytes.
+use Prim.Native.Nat.{ℕ, _*_, _/_, _%_, _-_, _<_, _≤_}
+use mathlib.Core.Path.{_≡_, refl, sym, _∙_}
+use mathlib.Core.Bool.{Bool, true, false, and-false}
+use mathlib.Core.List.{List, [], _++_}
+use borrow.Author.Tests.{le-leb, lt-leb, eq-eqb, ne-eqb, eqb-true, eqb-false}
+use native.Mathlib.Nat.{sub-zero}
+use native.Mathlib.Omega.{arith}
+use lib.ListN.{length, take, drop}
+use lib.Dec.{eqb}
+use lib.Seq.{take-at}
+use Rattle.words.specs.Run.{words}
+use Rattle.words.proofs.RunLaws.{length-words}
+use Rattle.frames.proofs.Facts.{part}
+use Rattle.record.specs.Size.{mostMembers}
+use Rattle.record.specs.Layout.{recordSize}
+use Rattle.record.specs.Bytes.{recordBytes}
+use Rattle.record.specs.Whole.{whole}
+use Rattle.record.specs.Lent.{noRecord, lent}
+use Rattle.record.proofs.LentLaws.{other-length}
+use Rattle.record.specs.declared.Record.{Record}
+use Rattle.station.specs.Answer.{outcomeOf}
+use Rattle.station.specs.Reply.{Reply, refused, asks, over, doneOf}
+use Rattle.station.specs.Found.{founded}
+use Rattle.station.specs.Post.{posted}
+use Rattle.station.specs.Resend.{resent}
+use Rattle.station.specs.declared.refusal.Refusal.{Refusal}
+use Rattle.station.specs.declared.refusal.Refusal.the-variants.{NoRoom, NotWhole}
+use Rattle.station.specs.declared.answer.Answer.{Answer}
+use Rattle.station.specs.declared.answer.Answer.the-variants.{Refused}
+use Rattle.station.specs.declared.answer.Outcome.{Outcome}
+use Rattle.station.specs.declared.done.Done.{Done}
+use Rattle.totem.specs.Over.{idsIn, taken, stationAfter, foundBy, foundOver, postOver, resendOver}
+
+-- ---- the record put back
+
+pub put-taken : (done : Done) (a : Answer) (b : Bool) (r : Record) (s s′ : List ℕ)
+    → a ≡ done .answer
+    → b ≡ taken a
+    → b ≡ true
+    → r ≡ done .rec
+    → s′ ≡ recordBytes r ++ drop recordSize s
+    → s′ ≡ stationAfter done s
+put-taken done a b r s s′ e t yes-taken f g =
+    let known : taken (done .answer) ≡ true = rw e at (sym t ∙ yes-taken) in
+    rw known (rw f at g)
+
+pub put-refused : (done : Done) (a : Answer) (b : Bool) (s : List ℕ) → a ≡ done .answer → b ≡ taken a → b ≡ false → s ≡ stationAfter done s
+put-refused done a b s e t not-taken =
+    let known : taken (done .answer) ≡ false = rw e at (sym t ∙ not-taken) in
+    rw known
+
+-- ---- a posting that is taken was made on a record's length
+
+asks-taken : (r : Record) (question : Bool) (why : Refusal) (rest : Reply) → taken (asks r question why rest .answer) ≡ true → question ≡ true
+asks-taken r true why rest e = refl
+asks-taken r false why rest e = e
+
+whole-long : (s : List ℕ) → whole (lent s) ≡ true → length s ≡ recordSize
+whole-long s w = eqb-true (length s) recordSize (part w (λ (f : eqb (length s) recordSize ≡ false). other-length s (eqb-false (length s) recordSize f)))
+
+pub post-long : (r : Record) (s : List ℕ) (service : ℕ) (content : List ℕ) (done : Done)
+    → r ≡ lent s
+    → done ≡ doneOf (posted r service content)
+    → taken (done .answer) ≡ true
+    → recordSize ≤ length s
+unfolding posted
+post-long r s service content done e d t =
+    let w : whole r ≡ true = asks-taken r (whole r) NotWhole _ (rw d at t) in
+    omega (arith, whole-long s (rw e at w))
+
+-- ---- the list of members
+
+pub ids-odd : (s : List ℕ) → (length s ≡ 2 * (length s / 2) → ⊥) → idsIn s ≡ []
+unfolding idsIn
+ids-odd s odd = rw (ne-eqb (length s % 2) 0 (λ e. odd (omega arith)))
+
+ids-even : (s : List ℕ) → length s ≡ 2 * (length s / 2) → idsIn s ≡ words 2 (length s / 2) s
+unfolding idsIn
+ids-even s even = rw (eq-eqb (length s % 2) 0 (omega arith))
+
+-- too many are refused like none
+pub founded-many : (s : List ℕ) (r : Record) (room : Bool) (own ring : ℕ)
+    → length s ≡ 2 * (length s / 2)
+    → mostMembers < length s / 2
+    → founded r room [] own ring ≡ founded r room (idsIn s) own ring
+unfolding founded
+founded-many s r room own ring even many =
+    let long : length (words 2 (length s / 2) s) ≡ length s / 2 = length-words 2 (length s / 2) s in
+    rw (ids-even s even, lt-leb (length (words 2 (length s / 2) s)) mostMembers (omega (arith, long)), and-false)
+
+-- the part of the array that was read
+pub ids-read : (s ids rest : List ℕ)
+    → length s ≡ 2 * (length s / 2)
+    → ids ≡ words 2 (length s / 2) s ++ rest
+    → take (length s / 2 - 0) ids ≡ idsIn s
+ids-read s ids rest even e = rw (e, sub-zero, ids-even s even) (take-at (words 2 (length s / 2) s) rest (length s / 2) (length-words 2 (length s / 2) s))
+
+-- ---- room for the record
+
+over-roomless : (s members : List ℕ) (own ring room : ℕ) → length s < recordSize → foundOver s members own ring room ≡ refused noRecord NoRoom
+unfolding foundOver founded
+over-roomless s members own ring room h = rw (lt-leb recordSize (length s) h)
+
+over-room : (s members : List ℕ) (own ring room : ℕ) → recordSize ≤ length s → foundOver s members own ring room ≡ foundBy (idsIn members) own ring room
+unfolding foundOver
+over-room s members own ring room h = rw (le-leb recordSize (length s) h)
+
+-- ---- what a call says and leaves, from what its step did
+
+module _ (reply : Reply) (done : Done) (a : Answer) (o : Outcome) (d : done ≡ doneOf reply) (e : a ≡ done .answer) (f : o ≡ outcomeOf a) where
+  said : o ≡ outcomeOf (reply .answer)
+  said = rw (e, d) at f
+
+  left : (s s′ : List ℕ) → s′ ≡ stationAfter done s → s′ ≡ stationAfter (doneOf reply) s
+  left s s′ g = rw d at g
+
+pub post-over : (s : List ℕ) (service : ℕ) (content : List ℕ) (r : Record) (done : Done) (a : Answer) (o : Outcome) (s′ : List ℕ)
+    → r ≡ lent s
+    → done ≡ doneOf (posted r service content)
+    → s′ ≡ stationAfter done s
+    → a ≡ done .answer
+    → o ≡ outcomeOf a
+    → (o ≡ outcomeOf (postOver s service content .answer)) × (s′ ≡ stationAfter (doneOf (postOver s service content)) s)
+unfolding postOver
+post-over s service content r done a o s′ l d g e f =
+    let reply = posted (lent s) service content in
+    let d′ : done ≡ doneOf reply = rw l at d in
+    (said reply done a o d′ e f, left reply done a o d′ e f s s′ g)
+
+pub resend-over : (s out : List ℕ) (r : Record) (done : Done) (a : Answer) (o : Outcome) (out′ : List ℕ)
+    → r ≡ lent s
+    → (done ≡ doneOf (resent r (length out))) × (out′ ≡ over (resent r (length out) .frames) out)
+    → a ≡ done .answer
+    → o ≡ outcomeOf a
+    → (o ≡ outcomeOf (resendOver s (length out) .answer)) × (out′ ≡ over (resendOver s (length out) .frames) out)
+unfolding resendOver
+resend-over s out r done a o out′ l d e f =
+    let d′ : (done ≡ doneOf (resent (lent s) (length out))) × (out′ ≡ over (resent (lent s) (length out) .frames) out) = rw l at d in
+    (said (resent (lent s) (length out)) done a o (d′ .0) e f, d′ .1)
+
+module _ (s members out : List ℕ) (own ring : ℕ) where
+  pub found-over-roomless : (o : Outcome)
+      → length s < recordSize
+      → o ≡ outcomeOf (Refused NoRoom)
+      → (o ≡ outcomeOf (foundOver s members own ring (length out) .answer)) × (s ≡ stationAfter (doneOf (foundOver s members own ring (length out))) s) × (out ≡ over (foundOver s members own ring (length out) .frames) out)
+  found-over-roomless o h f = rw (over-roomless s members own ring (length out) h) (f, refl, refl)
+
+  pub found-over : (done : Done) (a : Answer) (o : Outcome) (s′ out′ : List ℕ)
+      → recordSize ≤ length s
+      → (done ≡ doneOf (foundBy (idsIn members) own ring (length out))) × (out′ ≡ over (foundBy (idsIn members) own ring (length out) .frames) out)
+      → s′ ≡ stationAfter done s
+      → a ≡ done .answer
+      → o ≡ outcomeOf a
+      → (o ≡ outcomeOf (foundOver s members own ring (length out) .answer)) × (s′ ≡ stationAfter (doneOf (foundOver s members own ring (length out))) s) × (out′ ≡ over (foundOver s members own ring (length out) .frames) out)
+  found-over done a o s′ out′ h d g e f =
+      let reply = foundBy (idsIn members) own ring (length out) in
+      rw (over-room s members own ring (length out) h) (said reply done a o (d .0) e f, left reply done a o (d .0) e f s s′ g, d .1)

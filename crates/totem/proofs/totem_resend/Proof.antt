@@ -1,0 +1,13 @@
+use borrow.Author.Needs.{needs}
+use Rattle.totem.proofs.OverLaws.{resend-over}
+use Rattle.totem.proofs.totem_resend.Statement.{statement}
+use Rattle.totem.proofs.totem_resend.Tie as tie
+
+returns : tie.Need-returns
+returns c = resend-over _ (c .before .before .before .before .before .before .before .before .before .args .frames .now) _ _ _ _ _ (c .before .before .before .before .before .before .record-in .ensures) (c .before .before .before .before .resend-step .ensures) (c .before .answer-of .ensures) (c .outcome-of .ensures)
+
+pub totem-resend-spec : {M : Type 1} → statement M
+totem-resend-spec =
+    tie.close
+    (tie.spec (λ c κs. search needs) (λ c κs. search needs) (λ c κs. search needs) (λ c κs. search needs)
+    (λ c. search needs) returns)
