@@ -15,7 +15,7 @@ use Rattle.frames.proofs.Facts.{part}
 use Rattle.record.specs.Size.{mostMembers}
 use Rattle.record.specs.Members.{idsFollow, foundable}
 use Rattle.record.specs.Ring.{ids}
-use Rattle.record.specs.Whole.{inRange, logUnusedZero, unusedZero, membersAgree, whole}
+use Rattle.record.specs.Whole.{inRange, logUnusedZero, unusedZero, whole}
 use Rattle.record.specs.declared.log.Held.{Held}
 use Rattle.record.specs.declared.log.Log.{Log}
 use Rattle.record.specs.declared.turn.Turn.{Turn}
@@ -120,7 +120,7 @@ members-most l first rest =
     rw take-append-drop at (append-most mostId (ids l) (drop (l .count) (l .members)) most zeros)
 
 pub whole-fits : (r : Record) → whole r ≡ true → RecordFits r
-unfolding whole membersAgree foundable idsFollow unusedZero logUnusedZero
+unfolding whole foundable idsFollow unusedZero logUnusedZero
 whole-fits r e =
     let g = record-range r (part e (λ (f : inRange r ≡ false). rw f)) in
     let l = r .log in

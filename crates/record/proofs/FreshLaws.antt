@@ -14,7 +14,9 @@ use Rattle.record.specs.Count.{everyFrom}
 use Rattle.record.specs.Held.{holds}
 use Rattle.record.specs.Members.{foundable}
 use Rattle.record.specs.Fresh.{freshHeld, membersPlaced, freshLog, freshTurn, freshPosts, fresh}
-use Rattle.record.specs.Whole.{heldInRange, numbersInRange, logInRange, turnInRange, postsInRange, inRange, sendersAreMembers, leaveIsGood, marksInOrder, arusReached, heldToLevel, nextNotHeld, contentsPadded, freePlacesZero, logUnusedZero, postsUnusedZero, unusedZero, membersAgree, marksAgree, whole}
+use Rattle.record.specs.Ring.{ids as idsOf}
+use Rattle.record.specs.declared.log.Log.{Log}
+use Rattle.record.specs.Whole.{heldInRange, numbersInRange, logInRange, turnInRange, postsInRange, inRange, sendersAreMembers, leaveIsGood, marksInOrder, arusReached, heldToLevel, nextNotHeld, contentsPadded, freePlacesZero, logUnusedZero, postsUnusedZero, unusedZero, whole}
 use Rattle.record.proofs.MemberLaws.{Founded, founded, own-most}
 
 -- ---- a loop that places the members
@@ -71,13 +73,24 @@ module _ (ids : List ℕ) (own ring : ℕ) where
   unfolding inRange turnInRange postsInRange fresh freshTurn freshPosts every
   fresh-in-range f = rw (le-leb _ _ (own-most ids own f), log-in-range ids ring (f .few))
 
-  fresh-members : foundable ids own ring ≡ true → membersAgree (fresh ids own ring) ≡ true
-  unfolding membersAgree sendersAreMembers leaveIsGood fresh freshLog freshHeld freshTurn every
-  fresh-members e = rw (placed-front ids, e)
+  abbrev log : Log
+  log = fresh ids own ring .log
 
-  fresh-marks : marksAgree (fresh ids own ring) ≡ true
-  unfolding marksAgree marksInOrder arusReached heldToLevel nextNotHeld holds fresh freshLog freshHeld freshTurn everyFrom
-  fresh-marks = refl
+  fresh-senders : sendersAreMembers (idsOf log) (log .held .senders) ≡ true
+  unfolding sendersAreMembers fresh freshLog freshHeld every
+  fresh-senders = refl
+
+  fresh-leave : leaveIsGood (log .ring .0) (idsOf log) (fresh ids own ring .turn) ≡ true
+  unfolding leaveIsGood fresh freshTurn
+  fresh-leave = refl
+
+  fresh-founded : foundable ids own ring ≡ true → foundable (idsOf log) (fresh ids own ring .own) (log .ring .0) ≡ true
+  unfolding fresh freshLog
+  fresh-founded e = rw (placed-front ids, e)
+
+  fresh-marks : (marksInOrder log ≡ true) × (arusReached (fresh ids own ring .turn) (log .level .0) ≡ true) × (heldToLevel log ≡ true) × (nextNotHeld log ≡ true)
+  unfolding marksInOrder arusReached heldToLevel nextNotHeld holds fresh freshLog freshHeld freshTurn everyFrom
+  fresh-marks = (refl, refl, refl, refl)
 
   fresh-unused : unusedZero (fresh ids own ring) ≡ true
   unfolding unusedZero postsUnusedZero contentsPadded fresh freshTurn freshPosts every everyFrom
@@ -85,4 +98,4 @@ module _ (ids : List ℕ) (own ring : ℕ) where
 
   pub fresh-whole : foundable ids own ring ≡ true → whole (fresh ids own ring) ≡ true
   unfolding whole
-  fresh-whole e = rw (fresh-in-range (founded ids own ring e), fresh-members e, fresh-marks, fresh-unused)
+  fresh-whole e = rw (fresh-in-range (founded ids own ring e), fresh-senders, fresh-leave, fresh-founded e, fresh-marks .0, fresh-marks .1, fresh-marks .2, fresh-marks .3, fresh-unused)

@@ -10,7 +10,7 @@ use Rattle.record.specs.Count.{everyFrom}
 use Rattle.record.specs.Members.{foundable}
 use Rattle.record.specs.Layout.{recordSize}
 use Rattle.record.specs.Fresh.{freshHeld, membersPlaced, freshLog, freshTurn, freshPosts, fresh}
-use Rattle.record.specs.Whole.{heldInRange, numbersInRange, logInRange, turnInRange, postsInRange, inRange, sendersAreMembers, leaveIsGood, membersAgree, whole}
+use Rattle.record.specs.Whole.{heldInRange, numbersInRange, logInRange, turnInRange, postsInRange, inRange, sendersAreMembers, leaveIsGood, whole}
 use Rattle.record.specs.Bytes.{recordOf}
 use Rattle.record.specs.Lent.{noRecord, lent, bytesWhole}
 use Rattle.record.specs.RoundTrip.{OtherLength}
@@ -24,7 +24,7 @@ unfolding lent
 lent-none s other = rw (ne-eqb (length s) recordSize other)
 
 pub no-record-whole : whole noRecord ≡ false
-unfolding every everyFrom foundable freshHeld membersPlaced freshLog freshTurn freshPosts fresh heldInRange numbersInRange logInRange turnInRange postsInRange inRange sendersAreMembers leaveIsGood membersAgree whole
+unfolding every everyFrom foundable freshHeld membersPlaced freshLog freshTurn freshPosts fresh heldInRange numbersInRange logInRange turnInRange postsInRange inRange sendersAreMembers leaveIsGood whole
 no-record-whole = refl
 
 pub other-length : OtherLength

@@ -120,20 +120,14 @@ unusedZero r = logUnusedZero (r .log) && postsUnusedZero (r .posts) && allZero (
 
 -- ---- whole. That a held message's place follows from its number alone needs no clause: no number is stored (`placeOf`)
 
--- held senders members, a token that may be resent, founding questions
-unfoldable pub membersAgree : Record → Bool
-membersAgree r =
-    sendersAreMembers (ids (current r)) (current r .held .senders)
+unfoldable pub whole : Record → Bool
+whole r =
+    inRange r
+    && sendersAreMembers (ids (current r)) (current r .held .senders)
     && leaveIsGood (current r .ring .0) (ids (current r)) (r .turn)
     && foundable (ids (current r)) (r .own) (current r .ring .0)
-
--- the marks' order, both aru, what is held and what isn't
-unfoldable pub marksAgree : Record → Bool
-marksAgree r =
-    marksInOrder (current r)
+    && marksInOrder (current r)
     && arusReached (r .turn) (current r .level .0)
     && heldToLevel (current r)
     && nextNotHeld (current r)
-
-unfoldable pub whole : Record → Bool
-whole r = inRange r && membersAgree r && marksAgree r && unusedZero r
+    && unusedZero r

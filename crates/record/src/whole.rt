@@ -1,12 +1,15 @@
 // Is a record whole?
 ghost use mathlib.Core.Path.{_≡_};
+ghost use mathlib.Core.Bool.{_&&_};
 ghost use Prim.Native.Nat.{_≤_};
 ghost use lib.ListN.{length};
 ghost use Rattle.frames.specs.Number.{mostNumber};
 ghost use Rattle.frames.specs.Layout.{longestToken};
 ghost use Rattle.record.specs.Size.{mostMembers};
 ghost use Rattle.record.specs.Held.{holds};
-ghost use Rattle.record.specs.Whole.{sendersAreMembers, leaveIsGood, marksInOrder, arusReached, heldToLevel, nextNotHeld, membersAgree, marksAgree, whole};
+ghost use Rattle.record.specs.Members.{foundable};
+ghost use Rattle.record.specs.Ring.{ids};
+ghost use Rattle.record.specs.Whole.{sendersAreMembers, leaveIsGood, marksInOrder, arusReached, heldToLevel, nextNotHeld, whole};
 use crate::Record;
 use crate::log::Log;
 use crate::members;
@@ -90,7 +93,7 @@ fn next_not_held(l: Log) -> bool
 // The clauses on members: held senders, the token that may be resent, the founding questions.
 fn members_agree(r: Record) -> bool
     requires { ⌜ (r .log .count ≤ mostMembers) × (r .turn .size ≤ longestToken) ⌝ }
-    ensures { λ b. ⌜ b ≡ membersAgree r ⌝ }
+    ensures { λ b. ⌜ b ≡ (sendersAreMembers (ids (r .log)) (r .log .held .senders) && leaveIsGood (r .log .ring .0) (ids (r .log)) (r .turn) && foundable (ids (r .log)) (r .own) (r .log .ring .0)) ⌝ }
 {
     let members = r.log.members;
     let senders = r.log.held.senders;
@@ -105,7 +108,7 @@ fn members_agree(r: Record) -> bool
 // The clauses on marks: their order, both aru, what is held and what isn't.
 fn marks_agree(r: Record) -> bool
     requires { ⌜ (r .log .safe .0 ≤ mostNumber) × (r .log .level .0 ≤ mostNumber) ⌝ }
-    ensures { λ b. ⌜ b ≡ marksAgree r ⌝ }
+    ensures { λ b. ⌜ b ≡ (marksInOrder (r .log) && arusReached (r .turn) (r .log .level .0) && heldToLevel (r .log) && nextNotHeld (r .log)) ⌝ }
 {
     marks_in_order(r.log)
         & arus_reached(r.turn, r.log.level.0)

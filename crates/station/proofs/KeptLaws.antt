@@ -16,7 +16,7 @@ use Rattle.record.specs.Members.{membersCounted, idsFollow, ownAmong, ringInRan
 use Rattle.record.specs.Posts.{waiting}
 use Rattle.record.specs.Fresh.{fresh}
 use Rattle.record.specs.Turn.{hasLeave, remembered}
-use Rattle.record.specs.Whole.{postsInRange, inRange, membersAgree, marksAgree, postsUnusedZero, unusedZero, whole}
+use Rattle.record.specs.Whole.{postsInRange, inRange, postsUnusedZero, unusedZero, whole}
 use Rattle.record.specs.declared.Record.{Record}
 use Rattle.record.proofs.RangeFacts.{record-range, posts-range}
 use Rattle.record.proofs.FreshLaws.{fresh-whole}
@@ -112,7 +112,7 @@ module _ (r : Record) (service : ℕ) (content : List ℕ) (w : whole r ≡ true
   posts-good = part w (λ (f : postsInRange (r .posts) ≡ false). simp (f, and-false))
 
   with-post-whole : service ≤ mostService → whole (withPost r service content) ≡ true
-  unfolding whole inRange membersAgree marksAgree unusedZero
+  unfolding whole inRange unusedZero
   with-post-whole known =
       let unused = part w (λ (f : postsUnusedZero (r .posts) ≡ false). simp (f, and-false)) in
       rw (queued-in-range (r .posts) service content room short posts-good known, queued-unused-zero (r .posts) service content room short posts-good unused)

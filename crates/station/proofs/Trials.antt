@@ -12,12 +12,12 @@ use Rattle.record.specs.Posts.{queued}
 use Rattle.record.specs.Members.{idsFollow, foundable}
 use Rattle.record.specs.Ring.{tokenPasses}
 use Rattle.record.specs.Fresh.{freshHeld, membersPlaced, freshLog, freshTurn, freshPosts, fresh}
-use Rattle.record.specs.Whole.{heldInRange, numbersInRange, logInRange, turnInRange, postsInRange, inRange, sendersAreMembers, leaveIsGood, marksInOrder, arusReached, heldToLevel, nextNotHeld, contentsPadded, freePlacesZero, logUnusedZero, postsUnusedZero, unusedZero, membersAgree, marksAgree, whole}
+use Rattle.record.specs.Whole.{heldInRange, numbersInRange, logInRange, turnInRange, postsInRange, inRange, sendersAreMembers, leaveIsGood, marksInOrder, arusReached, heldToLevel, nextNotHeld, contentsPadded, freePlacesZero, logUnusedZero, postsUnusedZero, unusedZero, whole}
 use Rattle.station.specs.Found.{firstToken, founded}
 use Rattle.station.specs.Post.{posted}
 use Rattle.station.specs.Resend.{resent}
 use Rattle.station.specs.Trials.{table, allPass, same, postedTimes}
 
 pub trials : allPass table ≡ true
-unfolding wordBytes wordOf wordAt words wordsBytes every headerBytes tokenFixed everyFrom holds queued idsFollow foundable tokenPasses freshHeld membersPlaced freshLog freshTurn freshPosts fresh heldInRange numbersInRange logInRange turnInRange postsInRange inRange sendersAreMembers leaveIsGood marksInOrder arusReached heldToLevel nextNotHeld contentsPadded freePlacesZero logUnusedZero postsUnusedZero unusedZero membersAgree marksAgree whole firstToken founded posted resent allPass same postedTimes
+unfolding wordBytes wordOf wordAt words wordsBytes every headerBytes tokenFixed everyFrom holds queued idsFollow foundable tokenPasses freshHeld membersPlaced freshLog freshTurn freshPosts fresh heldInRange numbersInRange logInRange turnInRange postsInRange inRange sendersAreMembers leaveIsGood marksInOrder arusReached heldToLevel nextNotHeld contentsPadded freePlacesZero logUnusedZero postsUnusedZero unusedZero whole firstToken founded posted resent allPass same postedTimes
 trials = refl

@@ -30,29 +30,29 @@ use Rattle.station.specs.declared.answer.Answer.{Answer}
 use Rattle.station.specs.declared.answer.Answer.the-variants.{Refused}
 use Rattle.station.specs.declared.answer.Outcome.{Outcome}
 use Rattle.station.specs.declared.done.Done.{Done}
-use Rattle.totem.specs.Over.{idsIn, taken, stationAfter, foundBy, foundOver, postOver, resendOver}
+use Rattle.totem.specs.Over.{idsIn, isTaken, stationAfter, foundBy, foundOver, postOver, resendOver}
 
 -- ---- the record put back
 
 pub put-taken : (done : Done) (a : Answer) (b : Bool) (r : Record) (s s′ : List ℕ)
     → a ≡ done .answer
-    → b ≡ taken a
+    → b ≡ isTaken a
     → b ≡ true
     → r ≡ done .rec
     → s′ ≡ recordBytes r ++ drop recordSize s
     → s′ ≡ stationAfter done s
 put-taken done a b r s s′ e t yes-taken f g =
-    let known : taken (done .answer) ≡ true = rw e at (sym t ∙ yes-taken) in
+    let known : isTaken (done .answer) ≡ true = rw e at (sym t ∙ yes-taken) in
     rw known (rw f at g)
 
-pub put-refused : (done : Done) (a : Answer) (b : Bool) (s : List ℕ) → a ≡ done .answer → b ≡ taken a → b ≡ false → s ≡ stationAfter done s
+pub put-refused : (done : Done) (a : Answer) (b : Bool) (s : List ℕ) → a ≡ done .answer → b ≡ isTaken a → b ≡ false → s ≡ stationAfter done s
 put-refused done a b s e t not-taken =
-    let known : taken (done .answer) ≡ false = rw e at (sym t ∙ not-taken) in
+    let known : isTaken (done .answer) ≡ false = rw e at (sym t ∙ not-taken) in
     rw known
 
 -- ---- a posting that is taken was made on a record's length
 
-asks-taken : (r : Record) (question : Bool) (why : Refusal) (rest : Reply) → taken (asks r question why rest .answer) ≡ true → question ≡ true
+asks-taken : (r : Record) (question : Bool) (why : Refusal) (rest : Reply) → isTaken (asks r question why rest .answer) ≡ true → question ≡ true
 asks-taken r true why rest e = refl
 asks-taken r false why rest e = e
 
@@ -62,7 +62,7 @@ whole-long s w = eqb-true (length s) recordSize (part w (λ (f : eqb (length s) 
 pub post-long : (r : Record) (s : List ℕ) (service : ℕ) (content : List ℕ) (done : Done)
     → r ≡ lent s
     → done ≡ doneOf (posted r service content)
-    → taken (done .answer) ≡ true
+    → isTaken (done .answer) ≡ true
     → recordSize ≤ length s
 unfolding posted
 post-long r s service content done e d t =

@@ -22,15 +22,15 @@ use Rattle.station.specs.declared.answer.Answer.the-variants.{Refused, Founded,
 unfoldable pub idsIn : List ℕ → List ℕ
 idsIn s = cond (eqb (length s % 2) 0) (words 2 (length s / 2) s) []
 
-abbrev pub taken : Answer → Bool
-taken (Refused why) = false
-taken Founded = true
-taken Posted = true
-taken (Resent n) = true
+abbrev pub isTaken : Answer → Bool
+isTaken (Refused why) = false
+isTaken Founded = true
+isTaken Posted = true
+isTaken (Resent n) = true
 
 -- the station's bytes after a call: those of its record, followed by what stood after them; a refusal leaves every byte as it was
 abbrev pub stationAfter : Done → List ℕ → List ℕ
-stationAfter done s = cond (taken (done .answer)) (recordBytes (done .rec) ++ drop recordSize s) s
+stationAfter done s = cond (isTaken (done .answer)) (recordBytes (done .rec) ++ drop recordSize s) s
 
 -- founding where the record's bytes have room; there is no record before it
 abbrev pub foundBy : List ℕ → ℕ → ℕ → ℕ → Reply

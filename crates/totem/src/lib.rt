@@ -8,7 +8,7 @@ ghost use lib.ListN.{length};
 ghost use Rattle.record.specs.Layout.{recordSize};
 ghost use Rattle.station.specs.Answer.{outcomeOf};
 ghost use Rattle.station.specs.Reply.{doneOf, over};
-ghost use Rattle.totem.specs.Over.{idsIn, taken, stationAfter, foundBy, foundOver, postOver, resendOver};
+ghost use Rattle.totem.specs.Over.{idsIn, isTaken, stationAfter, foundBy, foundOver, postOver, resendOver};
 use frames::RingNumber;
 use station::Answer;
 use station::Done;
@@ -16,7 +16,7 @@ use station::Outcome;
 use station::Refusal;
 
 fn is_taken(a: Answer) -> bool
-    ensures { λ r. ⌜ r ≡ taken a ⌝ }
+    ensures { λ r. ⌜ r ≡ isTaken a ⌝ }
 {
     match a {
         Answer::Refused(_) => false,
@@ -28,7 +28,7 @@ fn is_taken(a: Answer) -> bool
 
 // The record back into the bytes that were lent, unless the call was refused.
 fn put_back(bytes: &mut [u8], done: Done)
-    requires { ⌜ (taken (done .answer) ≡ true → recordSize ≤ length (now bytes)) ⌝ }
+    requires { ⌜ (isTaken (done .answer) ≡ true → recordSize ≤ length (now bytes)) ⌝ }
     ensures { λ _. ⌜ now (bytes .exit) ≡ stationAfter done (now (bytes .entry)) ⌝ }
 {
     if is_taken(station::answer_of(done)) {

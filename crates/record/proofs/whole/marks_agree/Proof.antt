@@ -1,10 +1,8 @@
 use borrow.Author.Needs.{needs}
-use Rattle.record.specs.Whole.{marksAgree}
 use Rattle.record.proofs.whole.marks_agree.Statement.{statement}
 use Rattle.record.proofs.whole.marks_agree.Tie as tie
 
 returns : tie.Need-returns
-unfolding marksAgree
 returns c = rw (c .before .before .before .marks-in-order .ensures, c .before .before .arus-reached .ensures, c .before .held-to-level .ensures, c .next-not-held .ensures)
 
 pub marks-agree-spec : {M : Type 1} → statement M
