@@ -1,0 +1,10 @@
+use mathlib.Core.Path.{refl}
+use borrow.Author.Needs.{needs}
+use Rattle.station.proofs.done.answer_of.Statement.{statement}
+use Rattle.station.proofs.done.answer_of.Tie as tie
+
+returns : tie.Need-returns
+returns c = refl
+
+pub answer-of-spec : {M : Type 1} → statement M
+answer-of-spec = tie.close (tie.spec returns)

@@ -1,0 +1,60 @@
+/* Where each field of the record stands, from the record's first byte: the table of docs/RECORD.md. */
+#ifndef HOST_LAYOUT_H
+#define HOST_LAYOUT_H
+
+enum {
+    OWN = 0,
+    RING = 2,
+    MEMBER_COUNT = 6,
+    MEMBERS = 7,
+    LEVEL = 23,
+    SAFE = 27,
+    DELIVERED = 31,
+    SENDERS = 35,
+    SERVICES = 99,
+    LENGTHS = 163,
+    CONTENTS = 195,
+    ARU = 2243,
+    EARLIER = 2247,
+    TOKEN_NUMBER = 2251,
+    BROADCAST = 2255,
+    STALL = 2256,
+    TOKEN_SIZE = 2257,
+    TOKEN = 2258,
+    POST_COUNT = 2352,
+    POST_SERVICES = 2353,
+    POST_LENGTHS = 2385,
+    POST_CONTENTS = 2401,
+    RECORD_END = 3425
+};
+
+/* how many places, and how long */
+enum { MEMBER_PLACES = 8, HELD_PLACES = 32, POST_PLACES = 16, CONTENT_ROOM = 64, TOKEN_ROOM = 94 };
+
+/* of the member, the held message with that number and the post in the queue */
+#define MEMBER(place) (MEMBERS + 2 * (place))
+#define SENDER(number) (SENDERS + 2 * ((number) % HELD_PLACES))
+#define SERVICE(number) (SERVICES + 2 * ((number) % HELD_PLACES))
+#define LENGTH(number) (LENGTHS + (number) % HELD_PLACES)
+#define CONTENT(number) (CONTENTS + CONTENT_ROOM * ((number) % HELD_PLACES))
+#define POST_SERVICE(place) (POST_SERVICES + 2 * (place))
+#define POST_LENGTH(place) (POST_LENGTHS + (place))
+#define POST_CONTENT(place) (POST_CONTENTS + CONTENT_ROOM * (place))
+
+/* where each field of a token stands, from its frame's first byte */
+enum {
+    T_LENGTH = 0,
+    T_KIND = 2,
+    T_RING = 4,
+    T_REPRESENTATIVE = 8,
+    T_ADDRESSEE = 10,
+    T_NUMBER = 12,
+    T_HIGHEST = 16,
+    T_ARU = 20,
+    T_BLOCKER = 24,
+    T_ROUND = 26,
+    T_COUNT = 28,
+    T_REQUESTS = 30
+};
+
+#endif

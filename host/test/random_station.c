@@ -1,0 +1,128 @@
+#include "random_station.h"
+
+#include "chance.h"
+#include "words.h"
+
+static const uint32_t limit = 2000000000;
+
+static struct content random_content(void)
+{
+    struct content c = some_content(chance(65), 0);
+
+    chance_bytes(c.bytes, c.length);
+    return c;
+}
+
+static void random_token(struct station *s)
+{
+    struct token *t = &s->token;
+
+    s->leave = true;
+    t->ring = s->ring;
+    t->representative = s->members[0];
+    t->addressee = s->members[chance(s->member_count)];
+    t->number = chance_from(1, limit);
+    t->highest = chance(2) ? s->level + chance_from(0, limit - s->level) % 40 : chance_from(0, limit);
+    t->aru = chance(3) == 0 ? t->highest : chance_from(0, t->highest);
+    t->blocker = t->aru == t->highest ? 0 : s->members[chance(s->member_count)];
+    t->round = (uint16_t)chance_from(0, 128);
+    t->count = (uint16_t)(t->highest < 17 ? chance_from(0, t->highest) : chance(17));
+    for (unsigned i = 0; i < t->count; i++)
+        t->requests[i] = t->highest - i;
+}
+
+struct station random_station(void)
+{
+    static const uint32_t safes[] = {0, 1, 31, 32, 1000000, 1999999960, 1999999990, 2000000000};
+    uint16_t ids[MEMBER_PLACES];
+    unsigned count = chance_from(2, MEMBER_PLACES), own = chance(count), width;
+    uint32_t ring = chance(4) == 0 ? limit : chance_from(1, limit);
+    struct station s;
+
+    ids[0] = (uint16_t)chance_from(1, 500);
+    for (unsigned i = 1; i < count; i++)
+        ids[i] = (uint16_t)(ids[0] + (count - i) * chance_from(1, 3) * 1000 + i);
+    s = fresh_station(ids[own], ring, count, ids);
+    s.safe = chance(2) ? safes[chance(8)] : chance_from(0, limit);
+    width = limit - s.safe < HELD_PLACES ? limit - s.safe : HELD_PLACES;
+    s.level = s.safe + chance_from(0, width);
+    s.delivered = chance_from(s.safe, s.level);
+    for (uint32_t n = s.safe + 1; n <= s.safe + width; n++)
+        if (n <= s.level || (n > s.level + 1 && chance(3) == 0)) {
+            uint16_t sender = ids[chance(count)], service = chance(2);
+
+            hold(&s, n, sender, service, random_content());
+        }
+    s.aru = chance_from(0, s.level);
+    s.earlier = chance(2) ? s.level : chance_from(0, s.level);
+    s.token_number = chance_from(0, limit);
+    s.broadcast = (uint8_t)chance(17);
+    s.stall = (uint8_t)chance(256);
+    if (chance(3) != 0)
+        random_token(&s);
+    for (unsigned n = chance(17); n > 0; n--) {
+        struct content c = random_content();
+
+        add_post(&s, chance(2), c.bytes, c.length);
+    }
+    return s;
+}
+
+/* a value near what the field has, or near an edge of its range */
+static uint32_t near_edge(uint32_t value)
+{
+    static const uint32_t edges[] = {0,  1,   2,   8,     16,         30,         64,
+                                     94, 128, 255, 65535, 1999999999, 2000000000, 4294967295u};
+
+    if (chance(2) == 0)
+        value = edges[chance(14)];
+    return value + chance(3) - 1;
+}
+
+void change_a_field(uint8_t record[RECORD_END])
+{
+    static const unsigned words[][2] = {
+        {OWN, 2},    {RING, 4},    {MEMBER_COUNT, 1}, {LEVEL, 4}, {SAFE, 4},       {DELIVERED, 4},
+        {ARU, 4},    {EARLIER, 4}, {TOKEN_NUMBER, 4}, {STALL, 1}, {TOKEN_SIZE, 1}, {POST_COUNT, 1},
+        {BROADCAST, 1}};
+    static const unsigned token_words[][2] = {
+        {T_LENGTH, 2}, {T_KIND, 2}, {T_RING, 4},    {T_REPRESENTATIVE, 2}, {T_ADDRESSEE, 2}, {T_NUMBER, 4},
+        {T_HIGHEST, 4}, {T_ARU, 4}, {T_BLOCKER, 2}, {T_ROUND, 2},          {T_COUNT, 2}};
+    unsigned at, width = 1, place = chance(HELD_PLACES), post = chance(POST_PLACES), pick;
+
+    switch (chance(9)) {
+    case 0:
+        at = MEMBER(chance(MEMBER_PLACES));
+        width = 2;
+        break;
+    case 1:
+        at = SENDER(place);
+        width = 2;
+        break;
+    case 2:
+        at = chance(2) ? SERVICE(place) : POST_SERVICE(post);
+        width = 2;
+        break;
+    case 3:
+        at = chance(2) ? LENGTH(place) : POST_LENGTH(post);
+        break;
+    case 4:
+        at = chance(2) ? CONTENT(place) : POST_CONTENT(post);
+        at += chance(CONTENT_ROOM);
+        break;
+    case 5:
+        pick = chance(11);
+        at = TOKEN + token_words[pick][0];
+        width = token_words[pick][1];
+        break;
+    case 6:
+        at = TOKEN + T_REQUESTS + 4 * chance(16);
+        width = 4;
+        break;
+    default:
+        pick = chance(13);
+        at = words[pick][0];
+        width = words[pick][1];
+    }
+    put(record + at, width, near_edge(get(record + at, width)));
+}

@@ -1,0 +1,67 @@
+/* The header's numbers, the struct, and the table of docs/RECORD.md against the encoder. */
+#include <stddef.h>
+#include <string.h>
+
+#include "samples.h"
+#include "tally.h"
+#include "tests.h"
+#include "totem.h"
+#include "words.h"
+
+static void numbers(void)
+{
+    tally_case("the header's numbers");
+    check(TOTEM_STATION_LEN == RECORD_END, "the record's length");
+    check(TOTEM_FRAMES_LEN == 16 * 86 + 94, "the buffer for frames: 16 messages and a token");
+    check(TOTEM_DELIVERIES_LEN == 32 * 86, "the buffer for deliveries: 32 messages");
+    check(TOTEM_TOKEN_LEN == 30 && TOTEM_MOST_CONTENT == 64 && TOTEM_MOST_NUMBER == 2000000000, "sizes");
+    check(TOTEM_LEAST_MEMBERS == 2 && TOTEM_MOST_MEMBERS == 8 && TOTEM_MOST_POSTS == 16, "counts");
+    check(TOTEM_AGREED == 0 && TOTEM_SAFE == 1, "services");
+    check(TOTEM_FOUNDED == 1 && TOTEM_POSTED == 2 && TOTEM_RESENT == 7, "outcomes");
+    check(TOTEM_NO_ROOM == 1 && TOTEM_NOT_WHOLE == 2 && TOTEM_MEMBER_COUNT == 3 && TOTEM_BAD_IDS == 4
+              && TOTEM_NOT_AMONG == 5 && TOTEM_BAD_RING == 6 && TOTEM_LONG_CONTENT == 7
+              && TOTEM_OTHER_SERVICE == 8 && TOTEM_POSTS_FULL == 9 && TOTEM_NO_LEAVE == 19,
+          "refusals");
+    check(sizeof(totem_answer) == 10 && offsetof(totem_answer, refusal) == 0
+              && offsetof(totem_answer, outcome) == 2 && offsetof(totem_answer, frames) == 4
+              && offsetof(totem_answer, deliveries) == 6 && offsetof(totem_answer, deaf) == 8,
+          "the answer's fields");
+}
+
+/* each field of the rich sample, read at its offset */
+static void offsets(void)
+{
+    struct station s = sample(RICH);
+    uint8_t r[RECORD_END], token[TOKEN_ROOM];
+    size_t size = token_bytes(&s.token, token);
+
+    tally_case("the table's offsets");
+    station_bytes(&s, r);
+    check(get(r + OWN, 2) == s.own && get(r + RING, 4) == s.ring, "own id, ring");
+    check(r[MEMBER_COUNT] == 4 && get(r + MEMBER(0), 2) == 3 && get(r + MEMBER(3), 2) == 12, "members");
+    check(get(r + LEVEL, 4) == 45 && get(r + SAFE, 4) == 40 && get(r + DELIVERED, 4) == 42, "marks");
+    for (unsigned i = 0; i < s.held_count; i++) {
+        const struct held *h = &s.held[i];
+
+        check(get(r + SENDER(h->number), 2) == h->sender && get(r + SERVICE(h->number), 2) == h->service
+                  && r[LENGTH(h->number)] == h->content.length
+                  && memcmp(r + CONTENT(h->number), h->content.bytes, CONTENT_ROOM) == 0,
+              "held message %u", (unsigned)h->number);
+    }
+    check(get(r + ARU, 4) == 43 && get(r + EARLIER, 4) == 40 && get(r + TOKEN_NUMBER, 4) == 19, "visits");
+    check(r[BROADCAST] == 5 && r[STALL] == 3, "counts");
+    check(r[TOKEN_SIZE] == 42 && size == 42 && memcmp(r + TOKEN, token, size) == 0, "token");
+    check(r[POST_COUNT] == 4, "posts");
+    for (unsigned i = 0; i < s.post_count; i++)
+        check(get(r + POST_SERVICE(i), 2) == s.posts[i].service
+                  && r[POST_LENGTH(i)] == s.posts[i].content.length
+                  && memcmp(r + POST_CONTENT(i), s.posts[i].content.bytes, CONTENT_ROOM) == 0,
+              "post %u", i);
+}
+
+void test_layout(void)
+{
+    tally_group("numbers and layout");
+    numbers();
+    offsets();
+}

@@ -1,0 +1,28 @@
+/* The test of the C calls. With the argument 'brief' most of the random part is left out. */
+#include <stdio.h>
+#include <string.h>
+
+#include "lent.h"
+#include "tally.h"
+#include "tests.h"
+
+int main(int count, char **arguments)
+{
+    bool brief = count == 2 && strcmp(arguments[1], "brief") == 0;
+
+    if (count > 2 || (count == 2 && !brief)) {
+        printf("usage: %s [brief]\n", arguments[0]);
+        return 2;
+    }
+    tally_catch_signals();
+    lent_start();
+    test_layout();
+    test_founding();
+    test_posting();
+    test_resending();
+    test_whole();
+    test_not_whole();
+    test_use();
+    test_random(brief);
+    return tally_end();
+}

@@ -1,0 +1,16 @@
+/* The groups of tests. `brief` leaves most of the random part out. */
+#ifndef HOST_TESTS_H
+#define HOST_TESTS_H
+
+#include <stdbool.h>
+
+void test_layout(void);
+void test_founding(void);
+void test_posting(void);
+void test_resending(void);
+void test_whole(void);
+void test_not_whole(void);
+void test_use(void);
+void test_random(bool brief);
+
+#endif
