@@ -93,7 +93,10 @@ fn next_not_held(l: Log) -> bool
 // The clauses on members: held senders, the token that may be resent, the founding questions.
 fn members_agree(r: Record) -> bool
     requires { ⌜ (r .log .count ≤ mostMembers) × (r .turn .size ≤ longestToken) ⌝ }
-    ensures { λ b. ⌜ b ≡ (sendersAreMembers (ids (r .log)) (r .log .held .senders) && leaveIsGood (r .log .ring .0) (ids (r .log)) (r .turn) && foundable (ids (r .log)) (r .own) (r .log .ring .0)) ⌝ }
+    ensures { λ b. ⌜ b ≡
+        (sendersAreMembers (ids (r .log)) (r .log .held .senders)
+        && leaveIsGood (r .log .ring .0) (ids (r .log)) (r .turn)
+        && foundable (ids (r .log)) (r .own) (r .log .ring .0)) ⌝ }
 {
     let members = r.log.members;
     let senders = r.log.held.senders;
@@ -108,7 +111,11 @@ fn members_agree(r: Record) -> bool
 // The clauses on marks: their order, both aru, what is held and what isn't.
 fn marks_agree(r: Record) -> bool
     requires { ⌜ (r .log .safe .0 ≤ mostNumber) × (r .log .level .0 ≤ mostNumber) ⌝ }
-    ensures { λ b. ⌜ b ≡ (marksInOrder (r .log) && arusReached (r .turn) (r .log .level .0) && heldToLevel (r .log) && nextNotHeld (r .log)) ⌝ }
+    ensures { λ b. ⌜ b ≡
+        (marksInOrder (r .log)
+        && arusReached (r .turn) (r .log .level .0)
+        && heldToLevel (r .log)
+        && nextNotHeld (r .log)) ⌝ }
 {
     marks_in_order(r.log)
         & arus_reached(r.turn, r.log.level.0)

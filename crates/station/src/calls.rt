@@ -19,7 +19,10 @@ use record::Record;
 // A fresh record, and the ring's first token. Ruled out: the members sorted; a token addressed to
 // the own id.
 pub fn found(rec: &mut Record, ids: &[u16], own: u16, ring: RingNumber, token: &mut [u8]) -> Answer
-    ensures { λ r. ⌜ (now (rec .exit) ≡ (founded (now (rec .entry)) (leb shortestToken (length (now (token .entry)))) (now (ids .entry)) own (ring .0)) .rec) × (r ≡ (founded (now (rec .entry)) (leb shortestToken (length (now (token .entry)))) (now (ids .entry)) own (ring .0)) .answer) × (now (token .exit) ≡ over ((founded (now (rec .entry)) (leb shortestToken (length (now (token .entry)))) (now (ids .entry)) own (ring .0)) .frames) (now (token .entry))) ⌝ }
+    ensures { λ r. ⌜
+        (now (rec .exit) ≡ (founded (now (rec .entry)) (leb shortestToken (length (now (token .entry)))) (now (ids .entry)) own (ring .0)) .rec)
+        × (r ≡ (founded (now (rec .entry)) (leb shortestToken (length (now (token .entry)))) (now (ids .entry)) own (ring .0)) .answer)
+        × (now (token .exit) ≡ over ((founded (now (rec .entry)) (leb shortestToken (length (now (token .entry)))) (now (ids .entry)) own (ring .0)) .frames) (now (token .entry))) ⌝ }
 {
     let done = founding::found_step(*rec, ids, own, ring, token);
     *rec = done::rec_of(done);
@@ -28,7 +31,9 @@ pub fn found(rec: &mut Record, ids: &[u16], own: u16, ring: RingNumber, token: &
 
 // One post more waits. Ruled out: 9 with an empty queue; a mark changed.
 pub fn post(rec: &mut Record, service: u16, content: &[u8]) -> Answer
-    ensures { λ r. ⌜ (now (rec .exit) ≡ (posted (now (rec .entry)) service (now (content .entry))) .rec) × (r ≡ (posted (now (rec .entry)) service (now (content .entry))) .answer) ⌝ }
+    ensures { λ r. ⌜
+        (now (rec .exit) ≡ (posted (now (rec .entry)) service (now (content .entry))) .rec)
+        × (r ≡ (posted (now (rec .entry)) service (now (content .entry))) .answer) ⌝ }
 {
     let done = posting::post_step(*rec, service, content);
     *rec = done::rec_of(done);
@@ -37,7 +42,10 @@ pub fn post(rec: &mut Record, service: u16, content: &[u8]) -> Answer
 
 // The remembered token is written out again. Ruled out: another token written; the leave ended.
 pub fn resend(rec: &mut Record, frames: &mut [u8]) -> Answer
-    ensures { λ r. ⌜ (now (rec .exit) ≡ (resent (now (rec .entry)) (length (now (frames .entry)))) .rec) × (r ≡ (resent (now (rec .entry)) (length (now (frames .entry)))) .answer) × (now (frames .exit) ≡ over ((resent (now (rec .entry)) (length (now (frames .entry)))) .frames) (now (frames .entry))) ⌝ }
+    ensures { λ r. ⌜
+        (now (rec .exit) ≡ (resent (now (rec .entry)) (length (now (frames .entry)))) .rec)
+        × (r ≡ (resent (now (rec .entry)) (length (now (frames .entry)))) .answer)
+        × (now (frames .exit) ≡ over ((resent (now (rec .entry)) (length (now (frames .entry)))) .frames) (now (frames .entry))) ⌝ }
 {
     let done = resending::resend_step(*rec, frames);
     *rec = done::rec_of(done);

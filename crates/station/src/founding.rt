@@ -53,7 +53,9 @@ fn put_first_token(ids: &[u16], own: u16, ring: RingNumber, token: &mut [u8])
 // Founds a station of a ring and hands out the ring's first token. Ruled out: the members sorted; a
 // token addressed to the own id.
 pub fn found_step(rec: Record, ids: &[u16], own: u16, ring: RingNumber, token: &mut [u8]) -> Done
-    ensures { λ r. ⌜ (r ≡ doneOf (founded rec (leb shortestToken (length (now (token .entry)))) (now (ids .entry)) own (ring .0))) × (now (token .exit) ≡ over ((founded rec (leb shortestToken (length (now (token .entry)))) (now (ids .entry)) own (ring .0)) .frames) (now (token .entry))) ⌝ }
+    ensures { λ r. ⌜
+        (r ≡ doneOf (founded rec (leb shortestToken (length (now (token .entry)))) (now (ids .entry)) own (ring .0)))
+        × (now (token .exit) ≡ over ((founded rec (leb shortestToken (length (now (token .entry)))) (now (ids .entry)) own (ring .0)) .frames) (now (token .entry))) ⌝ }
 {
     if token.len() < frames::SHORTEST_TOKEN {
         return done::refuse(rec, Refusal::NoRoom);

@@ -26,7 +26,9 @@ fn put_remembered(t: Turn, frames: &mut [u8])
 
 // Ruled out: another token written; the leave ended by resending.
 pub fn resend_step(rec: Record, frames: &mut [u8]) -> Done
-    ensures { λ r. ⌜ (r ≡ doneOf (resent rec (length (now (frames .entry))))) × (now (frames .exit) ≡ over ((resent rec (length (now (frames .entry)))) .frames) (now (frames .entry))) ⌝ }
+    ensures { λ r. ⌜
+        (r ≡ doneOf (resent rec (length (now (frames .entry)))))
+        × (now (frames .exit) ≡ over ((resent rec (length (now (frames .entry)))) .frames) (now (frames .entry))) ⌝ }
 {
     if frames.len() < MOST_FRAMES {
         return done::refuse(rec, Refusal::NoRoom);

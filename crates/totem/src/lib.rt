@@ -38,7 +38,9 @@ fn put_back(bytes: &mut [u8], done: Done)
 
 // A list of members that has none, or more than a ring can have.
 fn found_by_none(own: u16, ring: u32, token: &mut [u8]) -> Done
-    ensures { λ r. ⌜ (r ≡ doneOf (foundBy [] own ring (length (now (token .entry))))) × (now (token .exit) ≡ over (foundBy [] own ring (length (now (token .entry))) .frames) (now (token .entry))) ⌝ }
+    ensures { λ r. ⌜
+        (r ≡ doneOf (foundBy [] own ring (length (now (token .entry)))))
+        × (now (token .exit) ≡ over (foundBy [] own ring (length (now (token .entry))) .frames) (now (token .entry))) ⌝ }
 {
     let ids = [0u16; 1];
     station::found_step(
@@ -51,7 +53,9 @@ fn found_by_none(own: u16, ring: u32, token: &mut [u8]) -> Done
 }
 
 fn found_by(members: &[u8], own: u16, ring: u32, token: &mut [u8]) -> Done
-    ensures { λ r. ⌜ (r ≡ doneOf (foundBy (idsIn (now (members .entry))) own ring (length (now (token .entry))))) × (now (token .exit) ≡ over (foundBy (idsIn (now (members .entry))) own ring (length (now (token .entry))) .frames) (now (token .entry))) ⌝ }
+    ensures { λ r. ⌜
+        (r ≡ doneOf (foundBy (idsIn (now (members .entry))) own ring (length (now (token .entry)))))
+        × (now (token .exit) ≡ over (foundBy (idsIn (now (members .entry))) own ring (length (now (token .entry))) .frames) (now (token .entry))) ⌝ }
 {
     let mut ids = [0u16; record::MOST_MEMBERS];
     let n = members.len() / 2;
@@ -80,7 +84,10 @@ pub extern "C" fn totem_found(
     ring: u32,
     token: &mut [u8],
 ) -> Outcome
-    ensures { λ r. ⌜ (r ≡ outcomeOf (foundOver (now (bytes .entry)) (now (members .entry)) own ring (length (now (token .entry))) .answer)) × (now (bytes .exit) ≡ stationAfter (doneOf (foundOver (now (bytes .entry)) (now (members .entry)) own ring (length (now (token .entry))))) (now (bytes .entry))) × (now (token .exit) ≡ over (foundOver (now (bytes .entry)) (now (members .entry)) own ring (length (now (token .entry))) .frames) (now (token .entry))) ⌝ }
+    ensures { λ r. ⌜
+        (r ≡ outcomeOf (foundOver (now (bytes .entry)) (now (members .entry)) own ring (length (now (token .entry))) .answer))
+        × (now (bytes .exit) ≡ stationAfter (doneOf (foundOver (now (bytes .entry)) (now (members .entry)) own ring (length (now (token .entry))))) (now (bytes .entry)))
+        × (now (token .exit) ≡ over (foundOver (now (bytes .entry)) (now (members .entry)) own ring (length (now (token .entry))) .frames) (now (token .entry))) ⌝ }
 {
     if bytes.len() < record::RECORD_SIZE {
         return station::outcome_of(Answer::Refused(Refusal::NoRoom));
@@ -93,7 +100,9 @@ pub extern "C" fn totem_found(
 // Posting. Ruled out: 9 with an empty queue; a record of another length taken.
 #[no_mangle]
 pub extern "C" fn totem_post(bytes: &mut [u8], service: u16, content: &[u8]) -> Outcome
-    ensures { λ r. ⌜ (r ≡ outcomeOf (postOver (now (bytes .entry)) service (now (content .entry)) .answer)) × (now (bytes .exit) ≡ stationAfter (doneOf (postOver (now (bytes .entry)) service (now (content .entry)))) (now (bytes .entry))) ⌝ }
+    ensures { λ r. ⌜
+        (r ≡ outcomeOf (postOver (now (bytes .entry)) service (now (content .entry)) .answer))
+        × (now (bytes .exit) ≡ stationAfter (doneOf (postOver (now (bytes .entry)) service (now (content .entry)))) (now (bytes .entry))) ⌝ }
 {
     let done = station::post_step(record::record_in(bytes), service, content);
     put_back(bytes, done);
@@ -103,7 +112,9 @@ pub extern "C" fn totem_post(bytes: &mut [u8], service: u16, content: &[u8]) -> 
 // Resending. Ruled out: another token written; 2 where the buffer is too small already.
 #[no_mangle]
 pub extern "C" fn totem_resend(bytes: &[u8], frames: &mut [u8]) -> Outcome
-    ensures { λ r. ⌜ (r ≡ outcomeOf (resendOver (now (bytes .entry)) (length (now (frames .entry))) .answer)) × (now (frames .exit) ≡ over (resendOver (now (bytes .entry)) (length (now (frames .entry))) .frames) (now (frames .entry))) ⌝ }
+    ensures { λ r. ⌜
+        (r ≡ outcomeOf (resendOver (now (bytes .entry)) (length (now (frames .entry))) .answer))
+        × (now (frames .exit) ≡ over (resendOver (now (bytes .entry)) (length (now (frames .entry))) .frames) (now (frames .entry))) ⌝ }
 {
     let done = station::resend_step(record::record_in(bytes), frames);
     station::outcome_of(station::answer_of(done))
