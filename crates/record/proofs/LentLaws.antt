@@ -12,7 +12,7 @@ use Rattle.record.specs.Layout.{recordSize}
 use Rattle.record.specs.Fresh.{freshHeld, membersPlaced, freshLog, freshTurn, freshPosts, fresh}
 use Rattle.record.specs.Whole.{heldInRange, numbersInRange, logInRange, turnInRange, postsInRange, inRange, sendersAreMembers, leaveIsGood, whole}
 use Rattle.record.specs.Bytes.{recordOf}
-use Rattle.record.specs.Lent.{noRecord, lent, bytesWhole}
+use Rattle.record.specs.Lent.{noRecord, lent}
 use Rattle.record.specs.RoundTrip.{OtherLength}
 
 pub lent-of : (s : List ℕ) → length s ≡ recordSize → lent s ≡ recordOf s

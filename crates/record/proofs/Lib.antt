@@ -1,3 +1,4 @@
+pub mod ListLaws
 pub mod CountLaws
 pub mod RangeFacts
 pub mod RangeLaws
@@ -5,7 +6,6 @@ pub mod MemberLaws
 pub mod UnusedLaws
 pub mod WholeLaws
 pub mod FreshLaws
-pub mod ListLaws
 pub mod HeldLaws
 pub mod PostLaws
 pub mod PaddedLaws

@@ -1,13 +1,11 @@
 -- Fields in range: what the types alone tell, and what the code tests.
-use Prim.Native.Nat.{ℕ, suc, _≤_}
-use mathlib.Core.Path.{_≡_, refl}
+use Prim.Native.Nat.{ℕ, _≤_}
+use mathlib.Core.Path.{_≡_}
 use mathlib.Core.Bool.{Bool, true, false, _&&_, and-true, and-false}
-use mathlib.Core.List.{List, [], _∷_}
 use borrow.Author.Tests.{eq-eqb, le-leb}
-use native.Mathlib.Omega.{arith}
 use lib.ListN.{length, getD}
 use lib.Dec.{leb}
-use Rattle.words.specs.Scan.{every, allWithin}
+use Rattle.words.specs.Scan.{allWithin}
 use Rattle.frames.specs.Number.{mostNumber, mostId}
 use Rattle.frames.specs.Layout.{mostService, mostContent, longestToken}
 use Rattle.record.specs.Size.{mostMembers, mostHeld, mostPosts, mostBroadcasts, mostStall, heldContents, postContents}
@@ -17,12 +15,7 @@ use Rattle.record.specs.declared.log.Log.{Log}
 use Rattle.record.specs.declared.turn.Turn.{Turn}
 use Rattle.record.specs.declared.posts.Posts.{Posts}
 use Rattle.record.specs.declared.Record.{Record}
-
--- all are at most what each is at most
-pub most-within : (high : ℕ) (s : List ℕ) → ((i : ℕ) → getD s i 0 ≤ high) → allWithin 0 high s ≡ true
-unfolding every
-most-within high [] p = refl
-most-within high (x ∷ s) p = rw (le-leb 0 x (omega arith), le-leb x high (p 0), most-within high s (λ i. p (suc i)))
+use Rattle.record.proofs.ListLaws.{all-within}
 
 pub held-tested : (h : Held)
     → length (h .senders) ≡ mostHeld
@@ -39,7 +32,7 @@ held-tested h e1 e2 e3 e4 p a b ea eb =
       eq-eqb (length (h .services)) mostHeld e2,
       eq-eqb (length (h .lengths)) mostHeld e3,
       eq-eqb (length (h .contents)) heldContents e4,
-      most-within mostId (h .senders) p,
+      all-within mostId (h .senders) p,
       ea,
       eb,
     )

@@ -1,23 +1,25 @@
 -- Where each field of the record stands in its bytes, counted from the first byte of the part that it belongs to, and how long
 -- each part is. docs/RECORD.md has the same as one table from the record's first byte. [document 01, The station and its neighbours]
-use Prim.Native.Nat.{ℕ}
+use Prim.Native.Nat.{ℕ, _+_}
+use Rattle.frames.specs.Layout.{longestToken}
+use Rattle.record.specs.Size.{heldContents, postContents}
 
--- ---- the record: own id, log, turn, posts
+-- ---- the held messages
 
-abbrev pub ownAt : ℕ
-ownAt = 0
+abbrev pub sendersAt : ℕ
+sendersAt = 0
 
-abbrev pub logAt : ℕ
-logAt = 2
+abbrev pub heldServicesAt : ℕ
+heldServicesAt = 64
 
-abbrev pub turnAt : ℕ
-turnAt = 2243
+abbrev pub heldLengthsAt : ℕ
+heldLengthsAt = 128
 
-abbrev pub postsAt : ℕ
-postsAt = 2352
+abbrev pub heldContentsAt : ℕ
+heldContentsAt = 160
 
-abbrev pub recordSize : ℕ
-recordSize = 3425
+abbrev pub heldSize : ℕ
+heldSize = heldContentsAt + heldContents
 
 -- ---- the log
 
@@ -43,24 +45,7 @@ abbrev pub heldMessagesAt : ℕ
 heldMessagesAt = 33
 
 abbrev pub logSize : ℕ
-logSize = 2241
-
--- ---- the held messages
-
-abbrev pub sendersAt : ℕ
-sendersAt = 0
-
-abbrev pub heldServicesAt : ℕ
-heldServicesAt = 64
-
-abbrev pub heldLengthsAt : ℕ
-heldLengthsAt = 128
-
-abbrev pub heldContentsAt : ℕ
-heldContentsAt = 160
-
-abbrev pub heldSize : ℕ
-heldSize = 2208
+logSize = heldMessagesAt + heldSize
 
 -- ---- the turn
 
@@ -86,7 +71,7 @@ abbrev pub tokenAt : ℕ
 tokenAt = 15
 
 abbrev pub turnSize : ℕ
-turnSize = 109
+turnSize = tokenAt + longestToken
 
 -- ---- the waiting posts
 
@@ -103,4 +88,21 @@ abbrev pub postContentsAt : ℕ
 postContentsAt = 49
 
 abbrev pub postsSize : ℕ
-postsSize = 1073
+postsSize = postContentsAt + postContents
+
+-- ---- the record: own id, log, turn, posts
+
+abbrev pub ownAt : ℕ
+ownAt = 0
+
+abbrev pub logAt : ℕ
+logAt = 2
+
+abbrev pub turnAt : ℕ
+turnAt = logAt + logSize
+
+abbrev pub postsAt : ℕ
+postsAt = turnAt + turnSize
+
+abbrev pub recordSize : ℕ
+recordSize = postsAt + postsSize

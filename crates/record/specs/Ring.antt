@@ -11,7 +11,6 @@ use Rattle.frames.specs.declared.token.Blocker.the-variants.{Nobody, Member}
 use Rattle.frames.specs.declared.token.Token.{Token}
 use Rattle.frames.specs.declared.reader.Answer.{Answer}
 use Rattle.frames.specs.declared.reader.Answer.the-variants.{Refused, IsMessage, IsToken}
-use Rattle.frames.specs.declared.reader.Reading.{Reading}
 use Rattle.record.specs.Members.{isMember, representative}
 use Rattle.record.specs.declared.log.Log.{Log}
 use Rattle.record.specs.declared.Record.{Record}

@@ -25,7 +25,7 @@ mostStall = 255
 
 -- the contents of all held messages, and of all waiting posts, each in one run of bytes
 abbrev pub heldContents : ℕ
-heldContents = 2048
+heldContents = mostHeld * mostContent
 
 abbrev pub postContents : ℕ
-postContents = 1024
+postContents = mostPosts * mostContent

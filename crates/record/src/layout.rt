@@ -1,13 +1,16 @@
 // Where each field of the record stands, counted from the first byte of the part that it belongs to.
-pub const OWN_AT: usize = 0;
+use crate::size;
 
-pub const LOG_AT: usize = 2;
+// The held messages.
+pub const SENDERS_AT: usize = 0;
 
-pub const TURN_AT: usize = 2243;
+pub const HELD_SERVICES_AT: usize = 64;
 
-pub const POSTS_AT: usize = 2352;
+pub const HELD_LENGTHS_AT: usize = 128;
 
-pub const RECORD_SIZE: usize = 3425;
+pub const HELD_CONTENTS_AT: usize = 160;
+
+const HELD_SIZE: usize = HELD_CONTENTS_AT + size::HELD_CONTENTS;
 
 // The log.
 pub const RING_AT: usize = 0;
@@ -24,14 +27,7 @@ pub const DELIVERED_AT: usize = 29;
 
 pub const HELD_MESSAGES_AT: usize = 33;
 
-// The held messages.
-pub const SENDERS_AT: usize = 0;
-
-pub const HELD_SERVICES_AT: usize = 64;
-
-pub const HELD_LENGTHS_AT: usize = 128;
-
-pub const HELD_CONTENTS_AT: usize = 160;
+const LOG_SIZE: usize = HELD_MESSAGES_AT + HELD_SIZE;
 
 // The turn.
 pub const ARU_AT: usize = 0;
@@ -48,6 +44,8 @@ pub const TOKEN_SIZE_AT: usize = 14;
 
 pub const TOKEN_AT: usize = 15;
 
+const TURN_SIZE: usize = TOKEN_AT + frames::LONGEST_TOKEN;
+
 // The waiting posts.
 pub const POST_COUNT_AT: usize = 0;
 
@@ -56,3 +54,16 @@ pub const POST_SERVICES_AT: usize = 1;
 pub const POST_LENGTHS_AT: usize = 33;
 
 pub const POST_CONTENTS_AT: usize = 49;
+
+const POSTS_SIZE: usize = POST_CONTENTS_AT + size::POST_CONTENTS;
+
+// The record.
+pub const OWN_AT: usize = 0;
+
+pub const LOG_AT: usize = 2;
+
+pub const TURN_AT: usize = LOG_AT + LOG_SIZE;
+
+pub const POSTS_AT: usize = TURN_AT + TURN_SIZE;
+
+pub const RECORD_SIZE: usize = POSTS_AT + POSTS_SIZE;

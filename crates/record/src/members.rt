@@ -1,6 +1,6 @@
 // The founding questions, of a list of ids, the own id and the ring number.
 ghost use mathlib.Core.Path.{_≡_};
-ghost use Rattle.record.specs.Members.{isMember, membersCounted, idsFollow, ringInRange, foundable};
+ghost use Rattle.record.specs.Members.{isMember, membersCounted, idsFollow, foundable};
 use crate::size;
 
 pub fn is_member(ids: &[u16], id: u16) -> bool

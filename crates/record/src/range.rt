@@ -2,7 +2,6 @@
 ghost use mathlib.Core.Path.{_≡_};
 ghost use Prim.Native.Nat.{_≤_};
 ghost use Rattle.frames.specs.Number.{mostNumber};
-ghost use Rattle.record.specs.Held.{placeOf, inUse};
 ghost use Rattle.record.specs.Whole.{heldInRange, numbersInRange, logInRange, turnInRange, postsInRange, inRange};
 use crate::Record;
 use crate::log::Held;

@@ -12,6 +12,7 @@ pub const MOST_POSTS: usize = 16;
 // Broadcasts of one visit.
 pub const MOST_BROADCASTS: u8 = 16;
 
-pub const HELD_CONTENTS: usize = 2048;
+// The contents of all held messages, and of all waiting posts, each in one run of bytes.
+pub const HELD_CONTENTS: usize = MOST_HELD * frames::MOST_CONTENT;
 
-pub const POST_CONTENTS: usize = 1024;
+pub const POST_CONTENTS: usize = MOST_POSTS * frames::MOST_CONTENT;

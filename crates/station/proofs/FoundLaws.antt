@@ -1,15 +1,15 @@
 -- Founding, question by question, and the ring's first token.
-use Prim.Native.Nat.{ℕ, _≤_, _<_}
-use mathlib.Core.Path.{_≡_, refl, sym, _∙_}
+use Prim.Native.Nat.{ℕ, _≤_}
+use mathlib.Core.Path.{_≡_, _∙_}
 use mathlib.Core.Bool.{Bool, true, false, and-false}
 use mathlib.Core.List.{List, [], _∷_}
 use borrow.Author.Tests.{le-leb, leb-true}
 use native.Mathlib.Omega.{arith}
 use lib.ListN.{length}
 use lib.Dec.{leb}
-use Rattle.words.specs.Scan.{every, allWithin}
-use Rattle.frames.specs.Number.{isNumber, isId}
-use Rattle.frames.specs.Layout.{shortestToken, tokenSize}
+use Rattle.words.specs.Scan.{every}
+use Rattle.frames.specs.Number.{isId}
+use Rattle.frames.specs.Layout.{shortestToken}
 use Rattle.frames.specs.Header.{headerFollows}
 use Rattle.frames.specs.Token.{requestsFollow, tokenFollows, tokenBytes}
 use Rattle.frames.specs.Write.{written, tokenWritten}

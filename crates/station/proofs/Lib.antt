@@ -1,3 +1,4 @@
+pub mod Accessors
 pub mod ReplyLaws
 pub mod PostLaws
 pub mod ResendLaws

@@ -1,6 +1,6 @@
 -- Posting, question by question.
 use Prim.Native.Nat.{ℕ, _≤_, _<_}
-use mathlib.Core.Path.{_≡_, refl}
+use mathlib.Core.Path.{_≡_}
 use mathlib.Core.Bool.{true, false}
 use mathlib.Core.List.{List, []}
 use borrow.Author.Tests.{le-leb, lt-leb, le-ltb, lt-ltb}
@@ -9,7 +9,7 @@ use Rattle.frames.specs.Layout.{mostService, mostContent}
 use Rattle.record.specs.Size.{mostPosts}
 use Rattle.record.specs.Whole.{whole}
 use Rattle.record.specs.declared.Record.{Record}
-use Rattle.station.specs.Reply.{refused, doneOf}
+use Rattle.station.specs.Reply.{refused}
 use Rattle.station.specs.Post.{withPost, posted}
 use Rattle.station.specs.declared.refusal.Refusal.the-variants.{NotWhole, LongContent, OtherService, PostsFull}
 use Rattle.station.specs.declared.answer.Answer.the-variants.{Posted}

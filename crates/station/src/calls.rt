@@ -4,7 +4,7 @@ ghost use mathlib.Core.Path.{_≡_};
 ghost use lib.ListN.{length};
 ghost use lib.Dec.{leb};
 ghost use Rattle.frames.specs.Layout.{shortestToken};
-ghost use Rattle.station.specs.Reply.{over, doneOf};
+ghost use Rattle.station.specs.Reply.{over};
 ghost use Rattle.station.specs.Found.{founded};
 ghost use Rattle.station.specs.Post.{posted};
 ghost use Rattle.station.specs.Resend.{resent};

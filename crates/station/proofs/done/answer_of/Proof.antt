@@ -1,5 +1,4 @@
 use mathlib.Core.Path.{refl}
-use borrow.Author.Needs.{needs}
 use Rattle.station.proofs.done.answer_of.Statement.{statement}
 use Rattle.station.proofs.done.answer_of.Tie as tie
 
