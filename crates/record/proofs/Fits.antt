@@ -22,7 +22,7 @@ use Rattle.record.specs.declared.turn.Turn.{Turn}
 use Rattle.record.specs.declared.posts.Posts.{Posts}
 use Rattle.record.specs.declared.Record.{Record}
 use Rattle.record.proofs.RangeFacts.{HeldRange, LogRange, TurnRange, PostsRange, record-range}
-use Rattle.record.proofs.Sizes.{HeldArrays, PostsArrays, RecordArrays}
+use Rattle.record.proofs.Arrays.{HeldArrays, PostsArrays, RecordArrays}
 
 -- every element is a word of w bytes
 abbrev pub Words : ℕ → List ℕ → Type 0
@@ -68,7 +68,7 @@ pub record RecordFits (r : Record) : Type 0 where
 held-fits : (h : Held) → HeldRange h → HeldFits h
 held-fits h g =
     record {
-      arrays = record { senders = g .senders-long; services = g .services-long; lengths = g .lengths-long; contents = g .contents-long };
+      arrays = g .arrays;
       senders = λ i. omega (arith, g .senders i);
       services = λ i. omega (arith, g .services i);
     }
@@ -102,7 +102,7 @@ posts-fits : (p : Posts) → PostsRange p → PostsFits p
 posts-fits p g =
     record {
       count = omega arith;
-      arrays = record { services = g .services-long; lengths = g .lengths-long; contents = g .contents-long };
+      arrays = g .arrays;
       services = λ i. omega (arith, g .services i);
     }
 

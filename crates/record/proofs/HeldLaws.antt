@@ -13,34 +13,35 @@ use lib.ListN.{length, getD, set, replicate, length-set, length-replicate}
 use lib.Dec.{ltb, eqb}
 use lib.Seq.{length-sets, getD-set-same, getD-set-other}
 use Rattle.frames.specs.Layout.{mostContent}
-use Rattle.record.specs.Size.{mostHeld, heldContents}
+use Rattle.record.specs.Size.{mostHeld}
 use Rattle.record.specs.Held.{Entry, placeOf, entryAt, inWindow, holds, heldAt, heldWith, stored, cleared, clearedFrom, letGo}
 use Rattle.record.specs.declared.log.Held.{Held}
 use Rattle.record.specs.declared.log.Log.{Log}
+use Rattle.record.proofs.Arrays.{HeldArrays}
 use Rattle.record.proofs.RangeFacts.{HeldRange}
 use Rattle.record.proofs.ListLaws.{content-same, content-other, Most, most-set}
 
 -- ---- sizes
 
 pub record HeldSizes (h : Held) : Type 0 where
-  pub senders : length (h .senders) ≡ mostHeld
-  pub services : length (h .services) ≡ mostHeld
-  pub lengths : length (h .lengths) ≡ mostHeld
-  pub contents : length (h .contents) ≡ heldContents
+  pub arrays : HeldArrays h
   -- no content runs into the next place
   pub short : Most mostContent (h .lengths)
 
 pub held-sizes : (h : Held) → HeldRange h → HeldSizes h
-held-sizes h r = record { senders = r .senders-long; services = r .services-long; lengths = r .lengths-long; contents = r .contents-long; short = r .lengths }
+held-sizes h r = record { arrays = r .arrays; short = r .lengths }
 
 pub sizes-with : (h : Held) (place : ℕ) (e : Entry) → HeldSizes h → length (e .content) ≤ mostContent → HeldSizes (heldWith h place e)
 unfolding heldWith
 sizes-with h place e s short =
     record {
-      senders = length-set (h .senders) place (e .sender) ∙ s .senders;
-      services = length-set (h .services) place (e .service) ∙ s .services;
-      lengths = length-set (h .lengths) place (length (e .content)) ∙ s .lengths;
-      contents = length-sets (h .contents) (mostContent * place) (e .content) ∙ s .contents;
+      arrays =
+          record {
+            senders = length-set (h .senders) place (e .sender) ∙ s .arrays .senders;
+            services = length-set (h .services) place (e .service) ∙ s .arrays .services;
+            lengths = length-set (h .lengths) place (length (e .content)) ∙ s .arrays .lengths;
+            contents = length-sets (h .contents) (mostContent * place) (e .content) ∙ s .arrays .contents;
+          };
       short = most-set mostContent (h .lengths) place (length (e .content)) (s .short) short;
     }
 
@@ -48,10 +49,13 @@ pub sizes-cleared : (h : Held) (place : ℕ) → HeldSizes h → HeldSizes (clea
 unfolding cleared
 sizes-cleared h place s =
     record {
-      senders = length-set (h .senders) place 0 ∙ s .senders;
-      services = length-set (h .services) place 0 ∙ s .services;
-      lengths = length-set (h .lengths) place 0 ∙ s .lengths;
-      contents = length-sets (h .contents) (mostContent * place) (replicate mostContent 0) ∙ s .contents;
+      arrays =
+          record {
+            senders = length-set (h .senders) place 0 ∙ s .arrays .senders;
+            services = length-set (h .services) place 0 ∙ s .arrays .services;
+            lengths = length-set (h .lengths) place 0 ∙ s .arrays .lengths;
+            contents = length-sets (h .contents) (mostContent * place) (replicate mostContent 0) ∙ s .arrays .contents;
+          };
       short = most-set mostContent (h .lengths) place 0 (s .short) (omega arith);
     }
 
@@ -70,9 +74,9 @@ entry-same : (h : Held) (place : ℕ) (e : Entry) → HeldSizes h → place < mo
 unfolding heldWith
 entry-same h place e s h< short =
     rw (
-      getD-set-same (h .senders) place (e .sender) 0 (omega (arith, s .senders)),
-      getD-set-same (h .services) place (e .service) 0 (omega (arith, s .services)),
-      content-same (h .lengths) (h .contents) place (e .content) (omega (arith, s .lengths)) (omega (arith, s .contents)),
+      getD-set-same (h .senders) place (e .sender) 0 (omega (arith, s .arrays .senders)),
+      getD-set-same (h .services) place (e .service) 0 (omega (arith, s .arrays .services)),
+      content-same (h .lengths) (h .contents) place (e .content) (omega (arith, s .arrays .lengths)) (omega (arith, s .arrays .contents)),
     )
 
 entry-other : (h : Held) (p place : ℕ) (e : Entry) → HeldSizes h → p ≢ place → length (e .content) ≤ mostContent → entryAt (heldWith h place e) p ≡ entryAt h p

@@ -1,3 +1,4 @@
+pub mod Arrays
 pub mod ListLaws
 pub mod CountLaws
 pub mod RangeFacts

@@ -7,23 +7,22 @@ use native.Mathlib.Omega.{arith}
 use lib.ListN.{length, getD, drop, replicate, length-set}
 use lib.Seq.{length-sets, getD-set-same, getD-set-other, drop-at}
 use Rattle.frames.specs.Layout.{mostContent}
-use Rattle.record.specs.Size.{mostPosts, postContents}
+use Rattle.record.specs.Size.{mostPosts}
 use Rattle.record.specs.Posts.{postAt, postsFrom, waiting, queued, taken}
 use Rattle.record.specs.declared.posts.Posts.{Posts}
+use Rattle.record.proofs.Arrays.{PostsArrays}
 use Rattle.record.proofs.RangeFacts.{PostsRange}
 use Rattle.record.proofs.ListLaws.{content-same, content-other, length-moved, moved-number, moved-part, Most, most-set, most-drop, most-append, most-zeros}
 
 -- ---- sizes
 
 pub record PostSizes (p : Posts) : Type 0 where
-  pub services : length (p .services) ≡ mostPosts
-  pub lengths : length (p .lengths) ≡ mostPosts
-  pub contents : length (p .contents) ≡ postContents
+  pub arrays : PostsArrays p
   -- no content runs into the next place
   pub short : Most mostContent (p .lengths)
 
 pub post-sizes : (p : Posts) → PostsRange p → PostSizes p
-post-sizes p r = record { services = r .services-long; lengths = r .lengths-long; contents = r .contents-long; short = r .lengths }
+post-sizes p r = record { arrays = r .arrays; short = r .lengths }
 
 -- ---- runs of posts
 
@@ -56,9 +55,12 @@ module _ (p : Posts) (service : ℕ) (content : List ℕ) (s : PostSizes p) (roo
   unfolding queued
   sizes-queued =
       record {
-        services = length-set (p .services) (p .count) service ∙ s .services;
-        lengths = length-set (p .lengths) (p .count) (length content) ∙ s .lengths;
-        contents = length-sets (p .contents) (mostContent * (p .count)) content ∙ s .contents;
+        arrays =
+            record {
+              services = length-set (p .services) (p .count) service ∙ s .arrays .services;
+              lengths = length-set (p .lengths) (p .count) (length content) ∙ s .arrays .lengths;
+              contents = length-sets (p .contents) (mostContent * (p .count)) content ∙ s .arrays .contents;
+            };
         short = most-set mostContent (p .lengths) (p .count) (length content) (s .short) short;
       }
 
@@ -66,8 +68,8 @@ module _ (p : Posts) (service : ℕ) (content : List ℕ) (s : PostSizes p) (roo
   unfolding queued
   last =
       rw (
-        getD-set-same (p .services) (p .count) service 0 (omega (arith, s .services)),
-        content-same (p .lengths) (p .contents) (p .count) content (omega (arith, s .lengths)) (omega (arith, s .contents)),
+        getD-set-same (p .services) (p .count) service 0 (omega (arith, s .arrays .services)),
+        content-same (p .lengths) (p .contents) (p .count) content (omega (arith, s .arrays .lengths)) (omega (arith, s .arrays .contents)),
       )
 
   earlier : (k : ℕ) → k < p .count → postAt (queued p service content) k ≡ postAt p k
@@ -94,18 +96,21 @@ module _ (p : Posts) (n : ℕ) (s : PostSizes p) (there : n ≤ p .count) (few :
   unfolding taken
   sizes-taken =
       record {
-        services = length-moved (p .services) n (omega (arith, s .services)) ∙ s .services;
-        lengths = length-moved (p .lengths) n (omega (arith, s .lengths)) ∙ s .lengths;
-        contents = length-moved (p .contents) (mostContent * n) (omega (arith, s .contents)) ∙ s .contents;
+        arrays =
+            record {
+              services = length-moved (p .services) n (omega (arith, s .arrays .services)) ∙ s .arrays .services;
+              lengths = length-moved (p .lengths) n (omega (arith, s .arrays .lengths)) ∙ s .arrays .lengths;
+              contents = length-moved (p .contents) (mostContent * n) (omega (arith, s .arrays .contents)) ∙ s .arrays .contents;
+            };
         short = most-append mostContent (drop n (p .lengths)) (replicate n 0) (most-drop mostContent n (p .lengths) (s .short)) (most-zeros mostContent n);
       }
 
   moved : (k : ℕ) → k < p .count - n → postAt (taken p n) k ≡ postAt p (n + k)
   unfolding taken
   moved k k< =
-      let services : getD (drop n (p .services) ++ replicate n 0) k 0 ≡ getD (p .services) (n + k) 0 = moved-number (p .services) n k (omega (arith, s .services)) in
-      let lengths : getD (drop n (p .lengths) ++ replicate n 0) k 0 ≡ getD (p .lengths) (n + k) 0 = moved-number (p .lengths) n k (omega (arith, s .lengths)) in
-      let content = moved-part (getD (p .lengths) (n + k) 0) (p .contents) n k 0 (omega (arith, s .contents, s .short (n + k))) in
+      let services : getD (drop n (p .services) ++ replicate n 0) k 0 ≡ getD (p .services) (n + k) 0 = moved-number (p .services) n k (omega (arith, s .arrays .services)) in
+      let lengths : getD (drop n (p .lengths) ++ replicate n 0) k 0 ≡ getD (p .lengths) (n + k) 0 = moved-number (p .lengths) n k (omega (arith, s .arrays .lengths)) in
+      let content = moved-part (getD (p .lengths) (n + k) 0) (p .contents) n k 0 (omega (arith, s .arrays .contents, s .short (n + k))) in
       rw (services, lengths, rw (add-zero (mostContent * k), add-zero (mostContent * (n + k))) at content)
 
   -- the others stay, in order

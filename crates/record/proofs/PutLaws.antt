@@ -16,7 +16,8 @@ use Rattle.record.specs.declared.log.Log.{Log}
 use Rattle.record.specs.declared.turn.Turn.{Turn}
 use Rattle.record.specs.declared.posts.Posts.{Posts}
 use Rattle.record.specs.declared.Record.{Record}
-use Rattle.record.proofs.Sizes.{words-long, HeldArrays, log-length, turn-length, PostsArrays, posts-length, RecordArrays, record-length}
+use Rattle.record.proofs.Arrays.{HeldArrays, PostsArrays, RecordArrays}
+use Rattle.record.proofs.Sizes.{words-long, log-length, turn-length, posts-length, record-length}
 
 -- a run of k words stored right after what was stored before
 stored-words : {l : List ℕ} {at : ℕ} {p : List ℕ} {n : ℕ} {l₁ : List ℕ} (w k : ℕ) (xs l₂ : List ℕ)

@@ -28,9 +28,9 @@ in-range : (p : Posts) → PostSizes p → p .count ≤ mostPosts → Most mostS
 unfolding postsInRange
 in-range p s few services =
     rw (
-      eq-eqb (length (p .services)) mostPosts (s .services),
-      eq-eqb (length (p .lengths)) mostPosts (s .lengths),
-      eq-eqb (length (p .contents)) postContents (s .contents),
+      eq-eqb (length (p .services)) mostPosts (s .arrays .services),
+      eq-eqb (length (p .lengths)) mostPosts (s .arrays .lengths),
+      eq-eqb (length (p .contents)) postContents (s .arrays .contents),
       le-leb (p .count) mostPosts few,
       all-within mostService (p .services) services,
       all-within mostContent (p .lengths) (s .short),
@@ -101,16 +101,16 @@ module _ (p : Posts) (n : ℕ) (there : n ≤ p .count) (good : postsInRange p �
   taken-padding s u place h =
       let k = getD (p .lengths) (n + place) 0 in
       rw (
-        moved-number (p .lengths) n place (omega (arith, s .lengths)),
-        moved-part (mostContent - k) (p .contents) n place k (omega (arith, s .contents, s .short (n + place))),
+        moved-number (p .lengths) n place (omega (arith, s .arrays .lengths)),
+        moved-part (mostContent - k) (p .contents) n place k (omega (arith, s .arrays .contents, s .short (n + place))),
       )
-      (padded-at (p .lengths) (p .contents) (u .contents) (n + place) (omega (arith, s .lengths)))
+      (padded-at (p .lengths) (p .contents) (u .contents) (n + place) (omega (arith, s .arrays .lengths)))
 
   left-padding : PostSizes p → (place : ℕ) → mostPosts ≤ n + place → Most 0 (padding (taken p n .lengths) (taken p n .contents) place)
   unfolding taken
   left-padding s place h =
       let k = getD (taken p n .lengths) place 0 in
-      left-zero (mostContent - k) (mostContent * place + k) (mostContent * n) (drop (mostContent * n) (p .contents)) (simp length-drop (omega (arith, s .contents)))
+      left-zero (mostContent - k) (mostContent * place + k) (mostContent * n) (drop (mostContent * n) (p .contents)) (simp length-drop (omega (arith, s .arrays .contents)))
 
   taken-padded : PostSizes p → Unused p → contentsPadded (taken p n .lengths) (taken p n .contents) ≡ true
   taken-padded s u = padded-from (taken p n .lengths) (taken p n .contents) each
@@ -126,8 +126,8 @@ module _ (p : Posts) (n : ℕ) (there : n ≤ p .count) (good : postsInRange p �
   unfolding taken
   taken-unused s few u =
       record {
-        services = moved-later n (p .count) (p .services) there (omega (arith, s .services)) (u .services);
-        lengths = moved-later n (p .count) (p .lengths) there (omega (arith, s .lengths)) (u .lengths);
+        services = moved-later n (p .count) (p .services) there (omega (arith, s .arrays .services)) (u .services);
+        lengths = moved-later n (p .count) (p .lengths) there (omega (arith, s .arrays .lengths)) (u .lengths);
         contents = taken-padded s u;
       }
 

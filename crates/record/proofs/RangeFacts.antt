@@ -17,14 +17,12 @@ use Rattle.record.specs.declared.log.Log.{Log}
 use Rattle.record.specs.declared.turn.Turn.{Turn}
 use Rattle.record.specs.declared.posts.Posts.{Posts}
 use Rattle.record.specs.declared.Record.{Record}
+use Rattle.record.proofs.Arrays.{HeldArrays, PostsArrays}
 
 -- ---- the held messages
 
 pub record HeldRange (h : Held) : Type 0 where
-  pub senders-long : length (h .senders) ≡ mostHeld
-  pub services-long : length (h .services) ≡ mostHeld
-  pub lengths-long : length (h .lengths) ≡ mostHeld
-  pub contents-long : length (h .contents) ≡ heldContents
+  pub arrays : HeldArrays h
   pub senders : (i : ℕ) → getD (h .senders) i 0 ≤ mostId
   pub services : (i : ℕ) → getD (h .services) i 0 ≤ mostService
   pub lengths : (i : ℕ) → getD (h .lengths) i 0 ≤ mostContent
@@ -33,10 +31,13 @@ pub held-range : (h : Held) → heldInRange h ≡ true → HeldRange h
 unfolding heldInRange
 held-range h e =
     record {
-      senders-long = eqb-true (length (h .senders)) mostHeld (part e (λ (f : eqb (length (h .senders)) mostHeld ≡ false). rw f));
-      services-long = eqb-true (length (h .services)) mostHeld (part e (λ (f : eqb (length (h .services)) mostHeld ≡ false). simp (f, and-false)));
-      lengths-long = eqb-true (length (h .lengths)) mostHeld (part e (λ (f : eqb (length (h .lengths)) mostHeld ≡ false). simp (f, and-false)));
-      contents-long = eqb-true (length (h .contents)) heldContents (part e (λ (f : eqb (length (h .contents)) heldContents ≡ false). simp (f, and-false)));
+      arrays =
+          record {
+            senders = eqb-true (length (h .senders)) mostHeld (part e (λ (f : eqb (length (h .senders)) mostHeld ≡ false). rw f));
+            services = eqb-true (length (h .services)) mostHeld (part e (λ (f : eqb (length (h .services)) mostHeld ≡ false). simp (f, and-false)));
+            lengths = eqb-true (length (h .lengths)) mostHeld (part e (λ (f : eqb (length (h .lengths)) mostHeld ≡ false). simp (f, and-false)));
+            contents = eqb-true (length (h .contents)) heldContents (part e (λ (f : eqb (length (h .contents)) heldContents ≡ false). simp (f, and-false)));
+          };
       senders = within-most 0 mostId (h .senders) (part e (λ (f : allWithin 0 mostId (h .senders) ≡ false). simp (f, and-false)));
       services = within-most 0 mostService (h .services) (part e (λ (f : allWithin 0 mostService (h .services) ≡ false). simp (f, and-false)));
       lengths = within-most 0 mostContent (h .lengths) (part e (λ (f : allWithin 0 mostContent (h .lengths) ≡ false). simp (f, and-false)));
@@ -93,9 +94,7 @@ turn-range t e =
 -- ---- the waiting posts
 
 pub record PostsRange (p : Posts) : Type 0 where
-  pub services-long : length (p .services) ≡ mostPosts
-  pub lengths-long : length (p .lengths) ≡ mostPosts
-  pub contents-long : length (p .contents) ≡ postContents
+  pub arrays : PostsArrays p
   pub count : p .count ≤ mostPosts
   pub services : (i : ℕ) → getD (p .services) i 0 ≤ mostService
   pub lengths : (i : ℕ) → getD (p .lengths) i 0 ≤ mostContent
@@ -104,9 +103,12 @@ pub posts-range : (p : Posts) → postsInRange p ≡ true → PostsRange p
 unfolding postsInRange
 posts-range p e =
     record {
-      services-long = eqb-true (length (p .services)) mostPosts (part e (λ (f : eqb (length (p .services)) mostPosts ≡ false). rw f));
-      lengths-long = eqb-true (length (p .lengths)) mostPosts (part e (λ (f : eqb (length (p .lengths)) mostPosts ≡ false). simp (f, and-false)));
-      contents-long = eqb-true (length (p .contents)) postContents (part e (λ (f : eqb (length (p .contents)) postContents ≡ false). simp (f, and-false)));
+      arrays =
+          record {
+            services = eqb-true (length (p .services)) mostPosts (part e (λ (f : eqb (length (p .services)) mostPosts ≡ false). rw f));
+            lengths = eqb-true (length (p .lengths)) mostPosts (part e (λ (f : eqb (length (p .lengths)) mostPosts ≡ false). simp (f, and-false)));
+            contents = eqb-true (length (p .contents)) postContents (part e (λ (f : eqb (length (p .contents)) postContents ≡ false). simp (f, and-false)));
+          };
       count = leb-true (p .count) mostPosts (part e (λ (f : leb (p .count) mostPosts ≡ false). simp (f, and-false)));
       services = within-most 0 mostService (p .services) (part e (λ (f : allWithin 0 mostService (p .services) ≡ false). simp (f, and-false)));
       lengths = within-most 0 mostContent (p .lengths) (part e (λ (f : allWithin 0 mostContent (p .lengths) ≡ false). simp (f, and-false)));

@@ -7,7 +7,7 @@ use Rattle.words.specs.Run.{wordsBytes}
 use Rattle.words.proofs.WordLaws.{length-word}
 use Rattle.words.proofs.RunLaws.{length-words-bytes}
 use Rattle.frames.specs.Layout.{longestToken}
-use Rattle.record.specs.Size.{mostMembers, mostHeld, mostPosts, heldContents, postContents}
+use Rattle.record.specs.Size.{mostMembers, mostHeld, mostPosts}
 use Rattle.record.specs.Layout.{heldSize, logSize, turnSize, postsSize, recordSize}
 use Rattle.record.specs.Bytes.{heldBytes, logBytes, turnBytes, postsBytes, recordBytes}
 use Rattle.record.specs.declared.log.Held.{Held}
@@ -15,23 +15,14 @@ use Rattle.record.specs.declared.log.Log.{Log}
 use Rattle.record.specs.declared.turn.Turn.{Turn}
 use Rattle.record.specs.declared.posts.Posts.{Posts}
 use Rattle.record.specs.declared.Record.{Record}
+use Rattle.record.proofs.Arrays.{HeldArrays, LogArrays, PostsArrays, RecordArrays}
 
 pub words-long : (w n : ℕ) (xs : List ℕ) → length xs ≡ n → length (wordsBytes w xs) ≡ w * n
 words-long w n xs long = length-words-bytes w xs ∙ rw long
 
-pub record HeldArrays (h : Held) : Type 0 where
-  pub senders : length (h .senders) ≡ mostHeld
-  pub services : length (h .services) ≡ mostHeld
-  pub lengths : length (h .lengths) ≡ mostHeld
-  pub contents : length (h .contents) ≡ heldContents
-
 pub held-length : (h : Held) → HeldArrays h → length (heldBytes h) ≡ heldSize
 unfolding heldBytes
 held-length h a = simp (length-append, words-long 2 mostHeld (h .senders) (a .senders), words-long 2 mostHeld (h .services) (a .services), a .lengths, a .contents)
-
-pub record LogArrays (l : Log) : Type 0 where
-  pub members : length (l .members) ≡ mostMembers
-  pub held : HeldArrays (l .held)
 
 pub log-length : (l : Log) → LogArrays l → length (logBytes l) ≡ logSize
 unfolding logBytes
@@ -41,19 +32,9 @@ pub turn-length : (t : Turn) → length (t .token) ≡ longestToken → length (
 unfolding turnBytes
 turn-length t a = simp (length-append, length-word, a)
 
-pub record PostsArrays (p : Posts) : Type 0 where
-  pub services : length (p .services) ≡ mostPosts
-  pub lengths : length (p .lengths) ≡ mostPosts
-  pub contents : length (p .contents) ≡ postContents
-
 pub posts-length : (p : Posts) → PostsArrays p → length (postsBytes p) ≡ postsSize
 unfolding postsBytes
 posts-length p a = simp (length-append, length-word, words-long 2 mostPosts (p .services) (a .services), a .lengths, a .contents)
-
-pub record RecordArrays (r : Record) : Type 0 where
-  pub log : LogArrays (r .log)
-  pub token : length (r .turn .token) ≡ longestToken
-  pub posts : PostsArrays (r .posts)
 
 pub record-length : (r : Record) → RecordArrays r → length (recordBytes r) ≡ recordSize
 unfolding recordBytes

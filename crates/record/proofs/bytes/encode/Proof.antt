@@ -1,5 +1,5 @@
 use borrow.Author.Needs.{needs}
-use Rattle.record.proofs.Sizes.{RecordArrays}
+use Rattle.record.proofs.Arrays.{RecordArrays}
 use Rattle.record.proofs.PutLaws.{record-stored}
 use Rattle.record.proofs.bytes.encode.Statement.{statement}
 use Rattle.record.proofs.bytes.encode.Tie as tie

@@ -2,7 +2,7 @@ use mathlib.Core.Path.{_≡_}
 use native.Mathlib.Omega.{arith}
 use lib.ListN.{length}
 use borrow.Author.Needs.{needs}
-use Rattle.record.proofs.Sizes.{HeldArrays}
+use Rattle.record.proofs.Arrays.{HeldArrays}
 use Rattle.record.proofs.PutLaws.{held-stored}
 use Rattle.record.specs.Size.{mostHeld, heldContents}
 use Rattle.record.proofs.held_bytes.put_held.Statement.{statement}

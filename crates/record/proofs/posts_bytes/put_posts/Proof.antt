@@ -2,7 +2,7 @@ use mathlib.Core.Path.{_≡_}
 use native.Mathlib.Omega.{arith}
 use lib.ListN.{length}
 use borrow.Author.Needs.{needs}
-use Rattle.record.proofs.Sizes.{PostsArrays}
+use Rattle.record.proofs.Arrays.{PostsArrays}
 use Rattle.record.proofs.PutLaws.{posts-stored}
 use Rattle.record.specs.Size.{mostPosts, postContents}
 use Rattle.record.proofs.posts_bytes.put_posts.Statement.{statement}
