@@ -147,7 +147,7 @@ fn put_refusal(out: &mut [u8], at: usize, number: u16) -> usize
 // No line is longer.
 pub const LONGEST_LINE: usize = 512;
 
-// The line of one frame, whole. Ruled out: two fields changed over; a line cut short.
+// The line of one frame, whole. Ruled out: two fields swapped; a line cut short.
 pub fn put_line(out: &mut [u8], at: usize, frame: &[u8]) -> usize
     requires { ⌜ at + longestLine ≤ length (now out) ⌝ }
     ensures { λ r. ⌜ Whole (now (out .entry)) at (lineOf (now (frame .entry))) r (now (out .exit)) ⌝ }

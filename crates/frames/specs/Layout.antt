@@ -58,7 +58,7 @@ abbrev pub messageSize : ℕ → ℕ
 messageSize n = contentAt + n
 
 abbrev pub longestMessage : ℕ
-longestMessage = 86
+longestMessage = messageSize mostContent
 
 -- ---- kind 2, token
 
@@ -101,7 +101,7 @@ tokenSize n = requestsAt + 4 * n
 
 -- without requests, as a ring's first token
 abbrev pub shortestToken : ℕ
-shortestToken = 30
+shortestToken = tokenSize 0
 
 abbrev pub longestToken : ℕ
-longestToken = 94
+longestToken = tokenSize mostRequests

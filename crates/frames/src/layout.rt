@@ -34,7 +34,7 @@ pub const MOST_SERVICE: u16 = 1;
 
 pub const MOST_CONTENT: usize = 64;
 
-pub const LONGEST_MESSAGE: usize = 86;
+pub const LONGEST_MESSAGE: usize = CONTENT_AT + MOST_CONTENT;
 
 // Kind 2, token.
 pub const TOKEN_KIND: u16 = 2;
@@ -60,9 +60,9 @@ pub const MOST_ROUND: u16 = 128;
 pub const MOST_REQUESTS: usize = 16;
 
 // A token without requests, as a ring's first, and one with all.
-pub const SHORTEST_TOKEN: usize = 30;
+pub const SHORTEST_TOKEN: usize = REQUESTS_AT;
 
-pub const LONGEST_TOKEN: usize = 94;
+pub const LONGEST_TOKEN: usize = REQUESTS_AT + 4 * MOST_REQUESTS;
 
 // The size of a token with n requests.
 pub fn token_size(n: u16) -> usize

@@ -13,7 +13,7 @@ pub enum Refusal {
     Malformed,
 }
 
-// The question's number in document 01. Ruled out: one number for all; 11 and 12 changed over.
+// The question's number in document 01. Ruled out: one number for all; 11 and 12 swapped.
 pub fn refusal_number(r: Refusal) -> u16
     ensures { λ n. ⌜ n ≡ refusalNumber r ⌝ }
 {

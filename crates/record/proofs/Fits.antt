@@ -1,8 +1,8 @@
 -- A record whose fields fit their bytes; a whole record's do.
-use Prim.Native.Nat.{ℕ, zero, suc, _^_, _<_, _≤_}
+use Prim.Native.Nat.{ℕ, _^_, _<_, _≤_}
 use mathlib.Core.Path.{_≡_}
 use mathlib.Core.Bool.{true, false, and-false}
-use mathlib.Core.List.{List, [], _∷_, _++_}
+use mathlib.Core.List.{List}
 use borrow.Author.Tests.{leb-true}
 use native.Mathlib.Omega.{arith}
 use lib.ListN.{length, getD, drop, take-append-drop}
@@ -21,6 +21,7 @@ use Rattle.record.specs.declared.log.Log.{Log}
 use Rattle.record.specs.declared.turn.Turn.{Turn}
 use Rattle.record.specs.declared.posts.Posts.{Posts}
 use Rattle.record.specs.declared.Record.{Record}
+use Rattle.record.proofs.ListLaws.{most-append}
 use Rattle.record.proofs.RangeFacts.{HeldRange, LogRange, TurnRange, PostsRange, record-range}
 use Rattle.record.proofs.Arrays.{HeldArrays, PostsArrays, RecordArrays}
 
@@ -108,16 +109,11 @@ posts-fits p g =
 
 -- ---- the ring number and the members: the founding questions, and zeros past the count
 
-append-most : (most : ℕ) (a b : List ℕ) → ((i : ℕ) → getD a i 0 ≤ most) → ((i : ℕ) → getD b i 0 ≤ most) → (i : ℕ) → getD (a ++ b) i 0 ≤ most
-append-most most [] b f g i = g i
-append-most most (x ∷ a) b f g zero = f zero
-append-most most (x ∷ a) b f g (suc i) = append-most most a b (λ j. f (suc j)) g i
-
 members-most : (l : Log) → allWithin 1 mostId (ids l) ≡ true → allZero (drop (l .count) (l .members)) ≡ true → (i : ℕ) → getD (l .members) i 0 ≤ mostId
 members-most l first rest =
     let most = within-most 1 mostId (ids l) first in
     let zeros : (i : ℕ) → getD (drop (l .count) (l .members)) i 0 ≤ mostId = λ i. omega (arith, within-most 0 0 (drop (l .count) (l .members)) rest i) in
-    rw take-append-drop at (append-most mostId (ids l) (drop (l .count) (l .members)) most zeros)
+    rw take-append-drop at (most-append mostId (ids l) (drop (l .count) (l .members)) most zeros)
 
 pub whole-fits : (r : Record) → whole r ≡ true → RecordFits r
 unfolding whole foundable idsFollow unusedZero logUnusedZero

@@ -1,5 +1,5 @@
 -- A fresh record: members placed one by one, and that it is whole.
-use Prim.Native.Nat.{ℕ, zero, suc, _+_, _-_, _<_, _≤_}
+use Prim.Native.Nat.{ℕ, suc, _+_, _-_, _<_, _≤_}
 use mathlib.Core.Path.{_≡_, refl, _∙_}
 use mathlib.Core.Bool.{true}
 use mathlib.Core.List.{List}
@@ -17,7 +17,8 @@ use Rattle.record.specs.Fresh.{freshHeld, membersPlaced, freshLog, fresh
 use Rattle.record.specs.Ring.{ids as idsOf}
 use Rattle.record.specs.declared.log.Log.{Log}
 use Rattle.record.specs.Whole.{heldInRange, numbersInRange, logInRange, turnInRange, postsInRange, inRange, sendersAreMembers, leaveIsGood, marksInOrder, arusReached, heldToLevel, nextNotHeld, contentsPadded, freePlacesZero, logUnusedZero, postsUnusedZero, unusedZero, whole}
-use Rattle.record.proofs.MemberLaws.{Founded, founded, own-most}
+use Rattle.record.proofs.MemberLaws.{FoundableFacts, foundable-facts, own-most}
+use Rattle.record.proofs.ListLaws.{most-zeros, all-within}
 
 -- ---- a loop that places the members
 
@@ -42,11 +43,6 @@ placed-all ids members i e h = e ∙ rw (take-all i ids h)
 
 -- ---- a fresh record is whole
 
-zeros-pass : (n : ℕ) → allZero (replicate n 0) ≡ true
-unfolding every
-zeros-pass zero = refl
-zeros-pass (suc n) = zeros-pass n
-
 placed-length : (ids : List ℕ) → length ids ≤ mostMembers → length (membersPlaced ids) ≡ mostMembers
 unfolding membersPlaced
 placed-length ids few = length-append ids (replicate (mostMembers - length ids) 0) ∙ rw length-replicate (omega arith)
@@ -57,7 +53,7 @@ placed-front ids = take-append-seam ids (replicate (mostMembers - length ids) 0)
 
 placed-rest : (ids : List ℕ) → allZero (drop (length ids) (membersPlaced ids)) ≡ true
 unfolding membersPlaced
-placed-rest ids = rw (drop-append-seam ids (replicate (mostMembers - length ids) 0)) (zeros-pass (mostMembers - length ids))
+placed-rest ids = rw (drop-append-seam ids (replicate (mostMembers - length ids) 0)) (all-within 0 (replicate (mostMembers - length ids) 0) (most-zeros 0 (mostMembers - length ids)))
 
 module _ (ids : List ℕ) (ring : ℕ) where
   log-in-range : length ids ≤ mostMembers → logInRange (freshLog ids ring) ≡ true
@@ -69,7 +65,7 @@ module _ (ids : List ℕ) (ring : ℕ) where
   log-unused = rw (placed-rest ids)
 
 module _ (ids : List ℕ) (own ring : ℕ) where
-  fresh-in-range : Founded ids own → inRange (fresh ids own ring) ≡ true
+  fresh-in-range : FoundableFacts ids own → inRange (fresh ids own ring) ≡ true
   unfolding inRange turnInRange postsInRange fresh freshTurn freshPosts every
   fresh-in-range f = rw (le-leb _ _ (own-most ids own f), log-in-range ids ring (f .few))
 
@@ -98,4 +94,4 @@ module _ (ids : List ℕ) (own ring : ℕ) where
 
   pub fresh-whole : foundable ids own ring ≡ true → whole (fresh ids own ring) ≡ true
   unfolding whole
-  fresh-whole e = rw (fresh-in-range (founded ids own ring e), fresh-senders, fresh-leave, fresh-founded e, fresh-marks .0, fresh-marks .1, fresh-marks .2, fresh-marks .3, fresh-unused)
+  fresh-whole e = rw (fresh-in-range (foundable-facts ids own ring e), fresh-senders, fresh-leave, fresh-founded e, fresh-marks .0, fresh-marks .1, fresh-marks .2, fresh-marks .3, fresh-unused)

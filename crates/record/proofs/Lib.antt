@@ -10,7 +10,7 @@ pub mod FreshLaws
 pub mod HeldLaws
 pub mod PostLaws
 pub mod PaddedLaws
-pub mod QueueWhole
+pub mod PostsWhole
 pub mod Sizes
 pub mod GetLaws
 pub mod PutLaws

@@ -110,7 +110,7 @@ most-take most (suc n) [] all i = omega arith
 most-take most (suc n) (x ∷ l) all zero = all zero
 most-take most (suc n) (x ∷ l) all (suc i) = most-take most n l (λ j. all (suc j)) i
 
-drop-take : (k n : ℕ) (l : List ℕ) → drop k (take n l) ≡ take (n - k) (drop k l)
+pub drop-take : (k n : ℕ) (l : List ℕ) → drop k (take n l) ≡ take (n - k) (drop k l)
 drop-take zero n l = rw sub-zero
 drop-take (suc k) zero l = rw zero-sub
 drop-take (suc k) (suc n) [] = sym (take-nil (suc n - suc k))

@@ -47,21 +47,21 @@ member-passes test (y ∷ ids) x m e =
     here-or-later true h later = rw (eqb-true y x h) at (part e (λ (f : test y ≡ false). rw f))
     here-or-later false h later = later (rw h at m)
 
-pub record Founded (ids : List ℕ) (own : ℕ) : Type 0 where
+pub record FoundableFacts (ids : List ℕ) (own : ℕ) : Type 0 where
   pub few : length ids ≤ mostMembers
   pub known : allWithin 1 mostId ids ≡ true
   pub among : isMember ids own ≡ true
 
-pub founded : (ids : List ℕ) (own ring : ℕ) → foundable ids own ring ≡ true → Founded ids own
+pub foundable-facts : (ids : List ℕ) (own ring : ℕ) → foundable ids own ring ≡ true → FoundableFacts ids own
 unfolding foundable idsFollow
-founded ids own ring e =
+foundable-facts ids own ring e =
     record {
       few = leb-true (length ids) mostMembers (part e (λ (f : leb (length ids) mostMembers ≡ false). simp (f, and-false)));
       known = part e (λ (f : allWithin 1 mostId ids ≡ false). simp (f, and-false));
       among = part e (λ (f : isMember ids own ≡ false). simp (f, and-false));
     }
 
-pub own-most : (ids : List ℕ) (own : ℕ) → Founded ids own → own ≤ mostId
+pub own-most : (ids : List ℕ) (own : ℕ) → FoundableFacts ids own → own ≤ mostId
 own-most ids own f =
     let e : leb 1 own && leb own mostId ≡ true = member-passes (λ x. leb 1 x && leb x mostId) ids own (f .among) (f .known) in
     leb-true own mostId (part e (λ (g : leb own mostId ≡ false). simp (g, and-false)))

@@ -12,13 +12,9 @@ use lib.Seq.{sets, getD-set-same, getD-set-other}
 use Rattle.words.specs.Scan.{allZero}
 use Rattle.words.proofs.ScanLaws.{within-most}
 use Rattle.frames.specs.Layout.{mostContent}
-use Rattle.record.specs.Whole.{contentsPadded}
+use Rattle.record.specs.Whole.{padding, contentsPadded}
 use Rattle.record.proofs.CountLaws.{each-passes, all-pass}
 use Rattle.record.proofs.ListLaws.{part-after, place-apart, Most, most-later, all-within}
-
--- the bytes past the length of the content at a place
-abbrev pub padding : List ℕ → List ℕ → ℕ → List ℕ
-padding lengths contents place = take (mostContent - getD lengths place 0) (drop (mostContent * place + getD lengths place 0) contents)
 
 pub padded-at : (lengths contents : List ℕ) → contentsPadded lengths contents ≡ true → (place : ℕ) → place < length lengths → Most 0 (padding lengths contents place)
 unfolding contentsPadded

@@ -7,6 +7,7 @@ use lib.ListN.{length, getD, set, take, drop, replicate}
 use lib.Dec.{leb, ltb, eqb}
 use lib.Seq.{sets}
 use Rattle.frames.specs.Layout.{mostContent}
+use Rattle.frames.specs.declared.number.MessageNumber.{MessageNumber}
 use Rattle.record.specs.Size.{mostHeld}
 use Rattle.record.specs.declared.log.Held.{Held}
 use Rattle.record.specs.declared.log.Log.{Log}
@@ -56,20 +57,22 @@ heldWith h place e =
       contents = sets (h .contents) (mostContent * place) (e .content);
     }
 
-abbrev pub withHeld : Log → Held → Log
-withHeld l h =
+-- the log with other marks and other messages
+abbrev pub logWith : Log → MessageNumber → MessageNumber → MessageNumber → Held → Log
+logWith l level safe delivered h =
     record {
       ring = l .ring;
       count = l .count;
       members = l .members;
-      level = l .level;
-      safe = l .safe;
-      delivered = l .delivered;
+      level = level;
+      safe = safe;
+      delivered = delivered;
       held = h;
     }
 
+-- the place was free before, so the bytes past the content are zero
 abbrev pub stored : Log → ℕ → Entry → Log
-stored l number e = withHeld l (heldWith (l .held) (placeOf number) e)
+stored l number e = logWith l (l .level) (l .safe) (l .delivered) (heldWith (l .held) (placeOf number) e)
 
 -- ---- everything up to a new safe mark is let go
 
@@ -87,14 +90,7 @@ unfoldable pub clearedFrom : Held → ℕ → ℕ → Held
 clearedFrom h first zero = h
 clearedFrom h first (suc n) = clearedFrom (cleared h (placeOf first)) (suc first) n
 
+-- the one place where the safe mark rises. `heldAt` looks through the log's own safe mark, so whoever needs what was held until now
+-- looks it up before
 unfoldable pub letGo : Log → ℕ → Log
-letGo l safe =
-    record {
-      ring = l .ring;
-      count = l .count;
-      members = l .members;
-      level = l .level;
-      safe = record { 0 = safe };
-      delivered = l .delivered;
-      held = clearedFrom (l .held) (suc (l .safe .0)) (safe - l .safe .0);
-    }
+letGo l safe = logWith l (l .level) (record { 0 = safe }) (l .delivered) (clearedFrom (l .held) (suc (l .safe .0)) (safe - l .safe .0))

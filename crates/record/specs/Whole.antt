@@ -100,10 +100,12 @@ nextNotHeld l = not (holds l (suc (l .level .0)))
 
 -- ---- a part not in use is zero
 
--- contents of 64 bytes each: the bytes past each one's length
+-- contents stand 64 bytes apart: the bytes past the length of the one at a place
+abbrev pub padding : List ℕ → List ℕ → ℕ → List ℕ
+padding lengths contents place = take (mostContent - getD lengths place 0) (drop (mostContent * place + getD lengths place 0) contents)
+
 unfoldable pub contentsPadded : List ℕ → List ℕ → Bool
-contentsPadded lengths contents =
-    everyFrom (λ place. allZero (take (mostContent - getD lengths place 0) (drop (mostContent * place + getD lengths place 0) contents))) 0 (length lengths)
+contentsPadded lengths contents = everyFrom (λ place. allZero (padding lengths contents place)) 0 (length lengths)
 
 -- a free place's service and length; its content is then zero too
 unfoldable pub freePlacesZero : Held → Bool

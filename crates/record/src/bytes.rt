@@ -11,7 +11,7 @@ use crate::log_bytes;
 use crate::posts_bytes;
 use crate::turn_bytes;
 
-// The record in the first RECORD_SIZE bytes. Ruled out: two marks changed over; a field one byte off.
+// The record in the first RECORD_SIZE bytes. Ruled out: two marks swapped; a field one byte off.
 pub fn decode(s: &[u8]) -> Record
     requires { ⌜ recordSize ≤ length (now s) ⌝ }
     ensures { λ r. ⌜ r ≡ recordOf (now (s .entry)) ⌝ }

@@ -78,7 +78,8 @@ fn fresh_posts() -> Posts
     }
 }
 
-// All marks and counts 0, nothing held or waiting, and no leave to resend.
+// All marks and counts 0, nothing held or waiting, and no leave to resend. Ruled out: the members in
+// another order; a byte left over past them.
 pub fn fresh_record(ids: &[u16], own: u16, ring: RingNumber) -> Record
     requires { ⌜ length (now ids) ≤ mostMembers ⌝ }
     ensures { λ r. ⌜ r ≡ fresh (now (ids .entry)) own (ring .0) ⌝ }

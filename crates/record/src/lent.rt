@@ -7,7 +7,7 @@ use crate::fresh;
 use crate::layout;
 use frames::RingNumber;
 
-// The record of nobody, which isn't whole.
+// The record of nobody, which isn't whole. Ruled out: one with a member; one that may resend.
 pub fn no_record() -> Record
     ensures { λ r. ⌜ r ≡ noRecord ⌝ }
 {

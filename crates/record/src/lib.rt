@@ -31,6 +31,7 @@ pub use members::members_counted;
 pub use posts::Posts;
 pub use posts::queue;
 pub use ring::representative_of;
+pub use size::MOST_BROADCASTS;
 pub use size::MOST_MEMBERS;
 pub use size::MOST_POSTS;
 pub use turn::Turn;

@@ -56,7 +56,7 @@ fn turn_in_range(t: Turn) -> bool
     (t.aru.0 <= frames::MOST_NUMBER)
         & (t.earlier.0 <= frames::MOST_NUMBER)
         & (t.number.0 <= frames::MOST_NUMBER)
-        & (t.broadcast <= size::MOST_BROADCASTS)
+        & (t.broadcast as usize <= size::MOST_BROADCASTS)
         & (t.size as usize <= frames::LONGEST_TOKEN)
 }
 

@@ -6,9 +6,10 @@ use crate::members;
 use frames::Answer;
 use frames::Blocker;
 use frames::Header;
+use frames::RingNumber;
 use frames::Token;
 
-// The first in circulation order, or 0 of an empty list.
+// The first in circulation order, or 0 of an empty list. Ruled out: the last; the own id.
 pub fn representative_of(ids: &[u16]) -> u16
     ensures { λ r. ⌜ r ≡ representative (now (ids .entry)) ⌝ }
 {
@@ -19,10 +20,10 @@ pub fn representative_of(ids: &[u16]) -> u16
 }
 
 // Question 13.
-pub fn this_ring(ring: u32, ids: &[u16], h: Header) -> bool
-    ensures { λ r. ⌜ r ≡ thisRing ring (now (ids .entry)) h ⌝ }
+pub fn this_ring(ring: RingNumber, ids: &[u16], h: Header) -> bool
+    ensures { λ r. ⌜ r ≡ thisRing (ring .0) (now (ids .entry)) h ⌝ }
 {
-    (h.ring.0 == ring) & (h.representative == representative_of(ids))
+    (h.ring.0 == ring.0) & (h.representative == representative_of(ids))
 }
 
 fn blocker_member(ids: &[u16], b: Blocker) -> bool
@@ -53,8 +54,8 @@ fn is_token(a: Answer) -> bool
 }
 
 // Is it a token that passes questions 10 to 14?
-pub fn token_passes(ring: u32, ids: &[u16], frame: &[u8]) -> bool
-    ensures { λ r. ⌜ r ≡ tokenPasses ring (now (ids .entry)) (now (frame .entry)) ⌝ }
+pub fn token_passes(ring: RingNumber, ids: &[u16], frame: &[u8]) -> bool
+    ensures { λ r. ⌜ r ≡ tokenPasses (ring .0) (now (ids .entry)) (now (frame .entry)) ⌝ }
 {
     let reading = frames::read(frame);
     let token = reading.token;

@@ -17,6 +17,8 @@ use crate::ring;
 use crate::size;
 use crate::turn::Turn;
 use crate::unused;
+use frames::MessageNumber;
+use frames::RingNumber;
 
 fn senders_are_members(ids: &[u16], senders: &[u16]) -> bool
     ensures { λ r. ⌜ r ≡ sendersAreMembers (now (ids .entry)) (now (senders .entry)) ⌝ }
@@ -33,9 +35,9 @@ fn senders_are_members(ids: &[u16], senders: &[u16]) -> bool
     true
 }
 
-fn leave_is_good(ring: u32, ids: &[u16], t: Turn) -> bool
+fn leave_is_good(ring: RingNumber, ids: &[u16], t: Turn) -> bool
     requires { ⌜ t .size ≤ longestToken ⌝ }
-    ensures { λ r. ⌜ r ≡ leaveIsGood ring (now (ids .entry)) t ⌝ }
+    ensures { λ r. ⌜ r ≡ leaveIsGood (ring .0) (now (ids .entry)) t ⌝ }
 {
     if t.size == 0 {
         return true;
@@ -50,20 +52,20 @@ fn marks_in_order(l: Log) -> bool
     (l.safe.0 <= l.delivered.0) & (l.delivered.0 <= l.level.0)
 }
 
-fn arus_reached(t: Turn, level: u32) -> bool
-    ensures { λ r. ⌜ r ≡ arusReached t level ⌝ }
+fn arus_reached(t: Turn, level: MessageNumber) -> bool
+    ensures { λ r. ⌜ r ≡ arusReached t (level .0) ⌝ }
 {
-    (t.aru.0 <= level) & (t.earlier.0 <= level)
+    (t.aru.0 <= level.0) & (t.earlier.0 <= level.0)
 }
 
 // Is this number held?
-pub fn is_held(l: Log, n: u32) -> bool
+pub fn is_held(l: Log, n: MessageNumber) -> bool
     requires { ⌜ l .safe .0 ≤ mostNumber ⌝ }
-    ensures { λ r. ⌜ r ≡ holds l n ⌝ }
+    ensures { λ r. ⌜ r ≡ holds l (n .0) ⌝ }
 {
     let senders = l.held.senders;
-    let place = n as usize % size::MOST_HELD;
-    (l.safe.0 < n) & (n <= l.safe.0 + size::MOST_HELD as u32) & (senders[place] != 0)
+    let place = n.0 as usize % size::MOST_HELD;
+    (l.safe.0 < n.0) & (n.0 <= l.safe.0 + size::MOST_HELD as u32) & (senders[place] != 0)
 }
 
 fn held_to_level(l: Log) -> bool
@@ -73,7 +75,7 @@ fn held_to_level(l: Log) -> bool
     let level = l.level.0;
     let mut n = l.safe.0 + 1;
     while n <= level {
-        let good = is_held(l, n);
+        let good = is_held(l, MessageNumber(n));
         if !good {
             return false;
         }
@@ -86,7 +88,7 @@ fn next_not_held(l: Log) -> bool
     requires { ⌜ (l .safe .0 ≤ mostNumber) × (l .level .0 ≤ mostNumber) ⌝ }
     ensures { λ r. ⌜ r ≡ nextNotHeld l ⌝ }
 {
-    !is_held(l, l.level.0 + 1)
+    !is_held(l, MessageNumber(l.level.0 + 1))
 }
 
 // The clauses on members: held senders, the token that may be resent, the founding questions.
@@ -101,7 +103,7 @@ fn members_agree(r: Record) -> bool
     let senders = r.log.held.senders;
     let n = r.log.count as usize;
     let ids = &members[0..n];
-    let ring = r.log.ring.0;
+    let ring = r.log.ring;
     senders_are_members(ids, &senders)
         & leave_is_good(ring, ids, r.turn)
         & members::foundable_by(ids, r.own, ring)
@@ -117,7 +119,7 @@ fn marks_agree(r: Record) -> bool
         && nextNotHeld (r .log)) ⌝ }
 {
     marks_in_order(r.log)
-        & arus_reached(r.turn, r.log.level.0)
+        & arus_reached(r.turn, r.log.level)
         & held_to_level(r.log)
         & next_not_held(r.log)
 }

@@ -21,7 +21,7 @@ use Rattle.record.specs.declared.Record.{Record}
 use Rattle.record.proofs.RangeFacts.{record-range, posts-range}
 use Rattle.record.proofs.FreshLaws.{fresh-whole}
 use Rattle.record.proofs.PostLaws.{post-sizes, waiting-queued}
-use Rattle.record.proofs.QueueWhole.{queued-in-range, queued-unused-zero}
+use Rattle.record.proofs.PostsWhole.{queued-in-range, queued-unused-zero}
 use Rattle.station.specs.Answer.{outcomeOf}
 use Rattle.station.specs.Reply.{Reply, refused, asks, mostFrames}
 use Rattle.station.specs.Found.{firstToken, founded}

@@ -16,4 +16,4 @@ returns c =
     turn-tested (start .args .t) token (omega (arith, stall))
 
 pub turn-in-range-spec : {M : Type 1} → statement M
-turn-in-range-spec = tie.close (tie.spec (λ c. search needs) returns)
+turn-in-range-spec = tie.close (tie.spec (λ c. search needs) (λ c. search needs) returns)

@@ -3,14 +3,15 @@ use mathlib.Core.Path.{_∙_}
 use lib.ListN.{length}
 use borrow.Author.Needs.{needs}
 use borrow.Author.Tests.{not-true, not-false}
-use Rattle.record.specs.Whole.{contentsPadded}
+use Rattle.words.specs.Scan.{allZero}
+use Rattle.record.specs.Whole.{padding, contentsPadded}
 use Rattle.record.proofs.CountLaws.{Counting, count-starts, count-stops, count-goes, count-ends}
-use Rattle.record.proofs.UnusedLaws.{padded, padding-tested}
+use Rattle.record.proofs.UnusedLaws.{padding-tested}
 use Rattle.record.proofs.unused.contents_padded.Statement.{statement}
 use Rattle.record.proofs.unused.contents_padded.Tie as tie
 
 abbrev Inv-loop : tie.InvT-loop
-Inv-loop lengths contents i₀ i = Counting (padded lengths contents) 0 (length lengths) i
+Inv-loop lengths contents i₀ i = Counting (λ place. allZero (padding lengths contents place)) 0 (length lengths) i
 
 abbrev μ-loop : tie.MeasureT-loop
 μ-loop lengths contents i₀ i = length lengths - i

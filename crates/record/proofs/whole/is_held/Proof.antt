@@ -9,4 +9,6 @@ unfolding holds
 returns c = refl
 
 pub is-held-spec : {M : Type 1} → statement M
-is-held-spec = tie.close (tie.spec (λ c. search needs) (λ c. search needs) (λ c. search needs) (λ c. search needs) returns)
+is-held-spec =
+    tie.close
+    (tie.spec (λ c. search needs) (λ c. search needs) (λ c. search needs) (λ c. search needs) (λ c. search needs) returns)

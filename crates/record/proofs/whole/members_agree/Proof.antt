@@ -16,13 +16,13 @@ part-ids-end c =
 
 slice-aggregate-senders-are-members : tie.Need-slice-aggregate-senders-are-members
 slice-aggregate-senders-are-members c =
-    let held = c .before .before .before .before .before .before .good .0 .1 .1 .1 .0 .1 .1 .1 .1 .1 .1 .1 .1 .0 in
+    let held = c .before .before .before .before .before .before .before .good .0 .1 .1 .1 .0 .1 .1 .1 .1 .1 .1 .1 .1 .0 in
     let senders = held .1 .1 .0 in
     search needs
 
 returns : tie.Need-returns
 returns c =
-    let start = c .before .before .before .before .before .before .before .before .before in
+    let start = c .before .before .before .before .before .before .before .before .before .before in
     members-tested (start .args .r) _ _ _
     (c .before .before .senders-are-members .ensures)
     (c .before .leave-is-good .ensures) (c .foundable-by .ensures)
