@@ -12,6 +12,7 @@
  * - C converts a number to its parameter's type before the call sees it: 65536 as a service arrives as 0.
  * - A refusal alters no lent byte, and its counts are 0. Bytes past an output count are never altered.
  * - Buffers that overlap are outside what is proved: lend separate ones.
+ * - A call needs up to 16 KB of stack; what was measured (host/test/stack.c) is below 15 KB.
  * - The library keeps no state of its own and has no globals; all it knows is in the lent record. So
  *   different stations may be used from different threads. One station takes one call at a time.
  */
@@ -33,19 +34,19 @@ extern "C" {
 #define TOTEM_MOST_CONTENT 64      /* a post's content */
 
 /* Counts and numbers. */
-#define TOTEM_LEAST_MEMBERS 2
-#define TOTEM_MOST_MEMBERS 8
+#define TOTEM_LEAST_MEMBERS 2          /* of a ring */
+#define TOTEM_MOST_MEMBERS 8           /* of a ring */
 #define TOTEM_MOST_POSTS 16            /* that wait at once */
 #define TOTEM_MOST_NUMBER 2000000000u  /* the largest ring, message or token number; the least is 1 */
 
 /* Services of a post. */
-#define TOTEM_AGREED 0
-#define TOTEM_SAFE 1
+#define TOTEM_AGREED 0  /* delivered in the ring's order */
+#define TOTEM_SAFE 1    /* the same, and only once every member is known to have it */
 
-/* Outcomes. */
-#define TOTEM_FOUNDED 1
-#define TOTEM_POSTED 2
-#define TOTEM_RESENT 7
+/* Outcomes; 3 to 6 are kept for arrival. */
+#define TOTEM_FOUNDED 1  /* by totem_found */
+#define TOTEM_POSTED 2   /* by totem_post */
+#define TOTEM_RESENT 7   /* by totem_resend */
 
 /* Refusals: the number of the first question that is answered 'no'. */
 #define TOTEM_NO_ROOM 1        /* a lent output buffer is too small */
@@ -59,12 +60,16 @@ extern "C" {
 #define TOTEM_POSTS_FULL 9     /* 16 posts wait */
 #define TOTEM_NO_LEAVE 19      /* the token may not be resent */
 
+/*
+ * What each call answers. The notice 'deaf' says that the station itself has kept aru back for more than 10
+ * visits of the token; aru is the number up to which, as far as the token knows, every member has everything.
+ */
 typedef struct {
     uint16_t refusal;     /* 0, or the number of the question that is answered 'no' */
     uint16_t outcome;     /* 0 with a refusal, else what happened */
     uint16_t frames;      /* bytes written for the cable */
     uint16_t deliveries;  /* bytes delivered; 0 from every call here */
-    uint16_t deaf;        /* the id in the notice 'deaf'; 0 from every call here */
+    uint16_t deaf;        /* the id in the notice 'deaf', or 0; 0 from every call here */
 } totem_answer;
 
 /*
@@ -80,10 +85,10 @@ typedef struct {
  * 5: own is among them.
  * 6: ring is 1 to 2,000,000,000.
  *
- * Answers TOTEM_FOUNDED and 30 in frames. The first TOTEM_STATION_LEN bytes of station are then the fresh
- * record, and the first 30 of token the ring's first token, addressed to the representative. Founding at
- * another member of the same ring writes the same token. A fresh record has no leave to resend, so
- * totem_resend answers 19 then: whoever hands the first token on keeps its bytes.
+ * Answers TOTEM_FOUNDED and TOTEM_TOKEN_LEN in frames. The first TOTEM_STATION_LEN bytes of station are then
+ * the fresh record, and the first TOTEM_TOKEN_LEN of token the ring's first token, addressed to the
+ * representative. Founding at another member of the same ring writes the same token. A fresh record has no
+ * leave to resend, so totem_resend answers 19 then: whoever hands the first token on keeps its bytes.
  *
  * Never touched: members, the bytes past the record and past the token, everything on a refusal.
  */
@@ -95,11 +100,11 @@ totem_answer totem_found(uint8_t *station, size_t station_len, const uint8_t *me
  *
  * Asks 2, 7, 8, 9.
  * 2: station has exactly TOTEM_STATION_LEN bytes and is whole.
- * 7: content has at most TOTEM_MOST_CONTENT bytes; none is a content too.
+ * 7: content has at most TOTEM_MOST_CONTENT bytes; an empty content is allowed.
  * 8: service is TOTEM_AGREED or TOTEM_SAFE.
  * 9: fewer than TOTEM_MOST_POSTS posts wait.
  *
- * Answers TOTEM_POSTED, all counts 0. The record has the post then; a whole record stays whole.
+ * Answers TOTEM_POSTED, all counts 0. The post then waits in the record; a whole record stays whole.
  *
  * Never touched: content, all else in the record, everything on a refusal.
  */
@@ -114,8 +119,8 @@ totem_answer totem_post(uint8_t *station, size_t station_len, uint16_t service, 
  * 2: station has exactly TOTEM_STATION_LEN bytes and is whole.
  * 19: the token may be resent.
  *
- * Answers TOTEM_RESENT and the token's size, 30 to 94, in frames; the first so many bytes of frames are
- * that token.
+ * Answers TOTEM_RESENT and the token's size, 30 to 94, in frames; that many bytes at the start of frames are
+ * the token.
  *
  * Never touched: the record, the bytes past the token, everything on a refusal.
  */

@@ -5,10 +5,6 @@
 #include "tests.h"
 #include "whole.h"
 
-#define LIMIT 2000000000u
-#define OVER 2000000001u
-#define ALL_ONES 4294967295u
-
 static const struct record_case cases[] = {
     /* fields in range */
     {"level and both marks 2,000,000,001", LAST, C_RANGE,
@@ -30,31 +26,32 @@ static const struct record_case cases[] = {
     {"earlier aru 2,000,000,001", LAST, C_RANGE | C_ARUS, {{EARLIER, 4, OVER}}},
     {"token number 2,000,000,001", PLAIN, C_RANGE, {{TOKEN_NUMBER, 4, OVER}}},
     {"token number all ones", RICH, C_RANGE, {{TOKEN_NUMBER, 4, ALL_ONES}}},
-    {"17 broadcast", PLAIN, C_RANGE, {{BROADCAST, 1, 17}}},
+    {"17 broadcast", PLAIN, C_RANGE, {{BROADCAST, 1, MOST_BROADCAST + 1}}},
     {"255 broadcast", RICH, C_RANGE, {{BROADCAST, 1, 255}}},
-    {"token of 95 bytes", RICH, C_RANGE, {{TOKEN_SIZE, 1, 95}}},
-    {"token of 94 bytes, its size 95", LONG, C_RANGE, {{TOKEN_SIZE, 1, 95}}},
+    {"token of 95 bytes", RICH, C_RANGE, {{TOKEN_SIZE, 1, TOKEN_ROOM + 1}}},
+    {"token of 94 bytes, its size 95", LONG, C_RANGE, {{TOKEN_SIZE, 1, TOKEN_ROOM + 1}}},
     {"token of 94 bytes, its size 255", LONG, C_RANGE, {{TOKEN_SIZE, 1, 255}}},
     {"token of 255 bytes", RICH, C_RANGE, {{TOKEN_SIZE, 1, 255}}},
     {"held service 2", RICH, C_RANGE, {{SERVICE(42), 2, 2}}},
     {"held service 256", RICH, C_RANGE, {{SERVICE(72), 2, 256}}},
     {"held service 65535", RICH, C_RANGE, {{SERVICE(47), 2, 65535}}},
-    {"held content of 65 bytes", RICH, C_RANGE, {{LENGTH(41), 1, 65}}},
+    {"held content of 65 bytes", RICH, C_RANGE, {{LENGTH(41), 1, CONTENT_ROOM + 1}}},
     {"held content of 255 bytes", RICH, C_RANGE, {{LENGTH(50), 1, 255}}},
     {"held content of 128 bytes at the last place", FULL, C_RANGE,
-     {{LENGTH(127), 1, 128}, {CONTENT(127), 64, 7}}},
-    {"17 posts", FULL, C_RANGE, {{POST_COUNT, 1, 17}}},
+     {{LENGTH(127), 1, 128}, {CONTENT(127), CONTENT_ROOM, 7}}},
+    {"17 posts", FULL, C_RANGE, {{POST_COUNT, 1, POST_PLACES + 1}}},
     {"255 posts", FULL, C_RANGE, {{POST_COUNT, 1, 255}}},
-    {"17 posts, none in its place", PLAIN, C_RANGE, {{POST_COUNT, 1, 17}}},
+    {"17 posts, none in its place", PLAIN, C_RANGE, {{POST_COUNT, 1, POST_PLACES + 1}}},
     {"post's service 2", RICH, C_RANGE, {{POST_SERVICE(0), 2, 2}}},
     {"post's service 256", RICH, C_RANGE, {{POST_SERVICE(3), 2, 256}}},
-    {"post's content of 65 bytes", RICH, C_RANGE, {{POST_LENGTH(2), 1, 65}}},
+    {"post's content of 65 bytes", RICH, C_RANGE, {{POST_LENGTH(2), 1, CONTENT_ROOM + 1}}},
     {"post's content of 255 bytes at the last place", FULL, C_RANGE,
-     {{POST_LENGTH(15), 1, 255}, {POST_CONTENT(15), 64, 7}}},
-    {"9 members", PLAIN, C_RANGE | C_FOUNDING, {{MEMBER_COUNT, 1, 9}}},
+     {{POST_LENGTH(15), 1, 255}, {POST_CONTENT(15), CONTENT_ROOM, 7}}},
+    {"9 members", PLAIN, C_RANGE | C_FOUNDING, {{MEMBER_COUNT, 1, MEMBER_PLACES + 1}}},
     {"255 members", RICH, C_RANGE | C_FOUNDING, {{MEMBER_COUNT, 1, 255}}},
     {"8 + 1 members with 8 ids", PLAIN, C_RANGE | C_FOUNDING,
-     {{MEMBER_COUNT, 1, 9}, {MEMBER(3), 4, 0x00050004}, {MEMBER(5), 4, 0x00080006}, {MEMBER(7), 2, 300}}},
+     {{MEMBER_COUNT, 1, MEMBER_PLACES + 1}, {MEMBER(3), 4, 0x00050004}, {MEMBER(5), 4, 0x00080006},
+      {MEMBER(7), 2, 300}}},
 
     /* held senders members */
     {"a sender that is no member", RICH, C_SENDERS, {{SENDER(43), 2, 8}}},
@@ -66,8 +63,9 @@ static const struct record_case cases[] = {
     {"a sender that is a member of others", LEVEL_7, C_SENDERS, {{SENDER(5), 2, 12}}},
 
     /* founding questions 3 to 6 */
-    {"no member", PLAIN, C_FOUNDING, {{MEMBER_COUNT, 1, 0}, {MEMBERS, 16, 0}}},
-    {"no member, own id 0", PLAIN, C_FOUNDING, {{MEMBER_COUNT, 1, 0}, {MEMBERS, 16, 0}, {OWN, 2, 0}}},
+    {"no member", PLAIN, C_FOUNDING, {{MEMBER_COUNT, 1, 0}, {MEMBERS, 2 * MEMBER_PLACES, 0}}},
+    {"no member, own id 0", PLAIN, C_FOUNDING,
+     {{MEMBER_COUNT, 1, 0}, {MEMBERS, 2 * MEMBER_PLACES, 0}, {OWN, 2, 0}}},
     {"1 member", PLAIN, C_FOUNDING, {{MEMBER_COUNT, 1, 1}, {MEMBER(1), 4, 0}, {OWN, 2, 3}}},
     {"id 0 first", PLAIN, C_FOUNDING, {{MEMBER(0), 2, 0}}},
     {"id 0 among them", PLAIN, C_FOUNDING, {{MEMBER(1), 2, 0}, {OWN, 2, 9}}},
@@ -104,12 +102,9 @@ static const struct record_case cases[] = {
     {"earlier aru 2,000,000,000", LEVEL_7, C_ARUS, {{EARLIER, 4, LIMIT}}},
 
     /* numbers from safe mark + 1 to level are held */
-    {"safe mark + 1 missing", RICH, C_HELD,
-     {{SENDER(41), 2, 0}, {SERVICE(41), 2, 0}, {LENGTH(41), 1, 0}, {CONTENT(41), 64, 0}}},
-    {"one between missing", RICH, C_HELD,
-     {{SENDER(43), 2, 0}, {SERVICE(43), 2, 0}, {LENGTH(43), 1, 0}, {CONTENT(43), 64, 0}}},
-    {"the level missing", RICH, C_HELD,
-     {{SENDER(45), 2, 0}, {SERVICE(45), 2, 0}, {LENGTH(45), 1, 0}, {CONTENT(45), 64, 0}}},
+    {"safe mark + 1 missing", RICH, C_HELD, {NOT_HELD(41)}},
+    {"one between missing", RICH, C_HELD, {NOT_HELD(43)}},
+    {"the level missing", RICH, C_HELD, {NOT_HELD(45)}},
     {"level 1, nothing held", PLAIN, C_HELD, {{LEVEL, 4, 1}}},
     {"level 7, nothing held", PLAIN, C_HELD, {{LEVEL, 4, 7}}},
     {"level 8, 7 held", LEVEL_7, C_HELD, {{LEVEL, 4, 8}}},
@@ -136,17 +131,17 @@ static const struct record_case cases[] = {
     {"a free place's service", RICH, C_UNUSED, {{SERVICE(46), 2, 1}}},
     {"a free place's length", RICH, C_UNUSED, {{LENGTH(46), 1, 1}}},
     {"a free place's length and content", RICH, C_UNUSED, {{LENGTH(46), 1, 2}, {CONTENT(46), 2, 0x0101}}},
-    {"a free place's length 64", PLAIN, C_UNUSED, {{LENGTH(31), 1, 64}}},
+    {"a free place's length 64", PLAIN, C_UNUSED, {{LENGTH(31), 1, CONTENT_ROOM}}},
     {"a free place's first content byte", RICH, C_UNUSED, {{CONTENT(46), 1, 1}}},
-    {"a free place's last content byte", RICH, C_UNUSED, {{CONTENT(46) + 63, 1, 1}}},
+    {"a free place's last content byte", RICH, C_UNUSED, {{CONTENT(46) + CONTENT_ROOM - 1, 1, 1}}},
     {"the first of all held contents' bytes", RICH, C_UNUSED, {{CONTENTS, 1, 128}}},
     {"the last of all held contents' bytes", RICH, C_UNUSED, {{ARU - 1, 1, 128}}},
     {"a free place's service 2", RICH, C_RANGE | C_UNUSED, {{SERVICE(46), 2, 2}}},
     {"the byte past a held content", RICH, C_UNUSED, {{CONTENT(43) + 1, 1, 1}}},
-    {"the last byte past a held content", RICH, C_UNUSED, {{CONTENT(43) + 63, 1, 1}}},
-    {"the one byte past a held content of 63", RICH, C_UNUSED, {{CONTENT(44) + 63, 1, 255}}},
+    {"the last byte past a held content", RICH, C_UNUSED, {{CONTENT(43) + CONTENT_ROOM - 1, 1, 1}}},
+    {"the one byte past a held content of 63", RICH, C_UNUSED, {{CONTENT(44) + CONTENT_ROOM - 1, 1, 255}}},
     {"the first byte past an empty held content", RICH, C_UNUSED, {{CONTENT(42), 1, 1}}},
-    {"a held length one less", RICH, C_UNUSED, {{LENGTH(41), 1, 63}}},
+    {"a held length one less", RICH, C_UNUSED, {{LENGTH(41), 1, CONTENT_ROOM - 1}}},
     {"a held message's sender gone", LEVEL_7, C_UNUSED | C_HELD, {{SENDER(7), 2, 0}}},
     {"a service past the count of posts", RICH, C_UNUSED, {{POST_SERVICE(4), 2, 1}}},
     {"a length past the count of posts", RICH, C_UNUSED, {{POST_LENGTH(4), 1, 1}}},
@@ -154,20 +149,42 @@ static const struct record_case cases[] = {
      {{POST_LENGTH(4), 1, 1}, {POST_CONTENT(4), 1, 1}}},
     {"a content past the count of posts", RICH, C_UNUSED, {{POST_CONTENT(4), 1, 1}}},
     {"the last service", PLAIN, C_UNUSED, {{POST_SERVICE(15), 2, 1}}},
-    {"the last length", PLAIN, C_UNUSED, {{POST_LENGTH(15), 1, 64}}},
+    {"the last length", PLAIN, C_UNUSED, {{POST_LENGTH(15), 1, CONTENT_ROOM}}},
     {"the record's last byte", RICH, C_UNUSED, {{RECORD_END - 1, 1, 1}}},
     {"the record's last byte past the last post", FULL, C_UNUSED, {{RECORD_END - 1, 1, 1}}},
     {"the byte past a post's content", RICH, C_UNUSED, {{POST_CONTENT(0) + 5, 1, 1}}},
-    {"the last byte past a post's content", RICH, C_UNUSED, {{POST_CONTENT(0) + 63, 1, 1}}},
+    {"the last byte past a post's content", RICH, C_UNUSED, {{POST_CONTENT(0) + CONTENT_ROOM - 1, 1, 1}}},
     {"the first byte past an empty post", RICH, C_UNUSED, {{POST_CONTENT(1), 1, 1}}},
-    {"a post's length one less", RICH, C_UNUSED, {{POST_LENGTH(2), 1, 63}}},
+    {"a post's length one less", RICH, C_UNUSED, {{POST_LENGTH(2), 1, CONTENT_ROOM - 1}}},
     {"one post fewer, its place as it was", RICH, C_UNUSED, {{POST_COUNT, 1, 3}}},
     {"no posts, their places as they were", FULL, C_UNUSED, {{POST_COUNT, 1, 0}}},
 };
+
+static void not_whole(const char *name, struct bytes record)
+{
+    check(!try_record(name, record, 1, pattern(3), FRAMES_ROOM), "whole by the test's own clauses");
+    try_record(name, record, 2, pattern(CONTENT_ROOM + 1), FRAMES_ROOM - 1);
+}
+
+/* a record of another length is not whole, whatever its bytes */
+static void other_lengths(void)
+{
+    static const size_t lengths[] = {
+        0, 1, 2, RECORD_END - 1, RECORD_END + 1, 2 * RECORD_END, 10000, 65536 + RECORD_END};
+    static uint8_t record[65536 + RECORD_END];
+    struct station s = sample(RICH);
+
+    station_bytes(&s, record);
+    for (size_t i = 0; i < sizeof lengths / sizeof lengths[0]; i++)
+        not_whole("a record of another length", bytes_of(record, lengths[i]));
+    not_whole("no record lent", null_bytes());
+    not_whole("a record of zeros", bytes_of(record + RECORD_END, RECORD_END));
+}
 
 void test_not_whole(void)
 {
     tally_group("records that are not whole");
     try_records(cases, sizeof cases / sizeof cases[0]);
     try_broken_tokens();
+    other_lengths();
 }

@@ -15,7 +15,7 @@ totem_answer refused(unsigned number)
 
 totem_answer founded(void)
 {
-    totem_answer a = {0, 1, 30, 0, 0};
+    totem_answer a = {0, 1, TOKEN_LEAST, 0, 0};
 
     return a;
 }
@@ -40,9 +40,9 @@ unsigned founding_refusal(size_t station_len, const uint8_t *members, size_t mem
     size_t count = members_len / 2;
     bool among = false;
 
-    if (station_len < 3425 || token_len < 30)
+    if (station_len < RECORD_END || token_len < TOKEN_LEAST)
         return 1;
-    if (members_len % 2 != 0 || count < 2 || count > 8)
+    if (members_len % 2 != 0 || count < LEAST_MEMBERS || count > MEMBER_PLACES)
         return 3;
     for (size_t i = 0; i < count; i++) {
         uint32_t id = get(members + 2 * i, 2);
@@ -56,23 +56,23 @@ unsigned founding_refusal(size_t station_len, const uint8_t *members, size_t mem
     }
     if (!among)
         return 5;
-    return ring < 1 || ring > 2000000000 ? 6 : 0;
+    return ring < 1 || ring > LIMIT ? 6 : 0;
 }
 
 unsigned posting_refusal(const uint8_t *station, size_t station_len, uint16_t service, size_t content_len)
 {
     if (broken_clauses(station, station_len) != WHOLE)
         return 2;
-    if (content_len > 64)
+    if (content_len > CONTENT_ROOM)
         return 7;
     if (service > 1)
         return 8;
-    return station[POST_COUNT] < 16 ? 0 : 9;
+    return station[POST_COUNT] < POST_PLACES ? 0 : 9;
 }
 
 unsigned resending_refusal(const uint8_t *station, size_t station_len, size_t frames_len)
 {
-    if (frames_len < 1470)
+    if (frames_len < FRAMES_ROOM)
         return 1;
     if (broken_clauses(station, station_len) != WHOLE)
         return 2;

@@ -1,4 +1,7 @@
-/* Where each field of the record stands, from the record's first byte: the table of docs/RECORD.md. */
+/*
+ * Where each field of the record stands, from the record's first byte: the table of docs/RECORD.md.
+ * host/check compares the two; the offsets are the first list here.
+ */
 #ifndef HOST_LAYOUT_H
 #define HOST_LAYOUT_H
 
@@ -28,8 +31,14 @@ enum {
     RECORD_END = 3425
 };
 
-/* how many places, and how long */
-enum { MEMBER_PLACES = 8, HELD_PLACES = 32, POST_PLACES = 16, CONTENT_ROOM = 64, TOKEN_ROOM = 94 };
+/* counts */
+enum { LEAST_MEMBERS = 2, MEMBER_PLACES = 8, HELD_PLACES = 32, POST_PLACES = 16, REQUEST_PLACES = 16 };
+enum { MOST_BROADCAST = 16, MOST_ROUND = 128 };
+
+/* the largest ring, message or token number, one more, and all bits of four bytes */
+#define LIMIT 2000000000u
+#define OVER (LIMIT + 1)
+#define ALL_ONES 4294967295u
 
 /* of the member, the held message with that number and the post in the queue */
 #define MEMBER(place) (MEMBERS + 2 * (place))
@@ -55,6 +64,19 @@ enum {
     T_ROUND = 26,
     T_COUNT = 28,
     T_REQUESTS = 30
+};
+
+/* the same in a record */
+#define T(field) (TOKEN + (field))
+#define REQUEST(place) T(T_REQUESTS + 4 * (place))
+
+/* sizes in bytes: a token without requests, the longest token, and the least buffer for frames */
+enum {
+    CONTENT_ROOM = 64,
+    MESSAGE_ROOM = 22 + CONTENT_ROOM,
+    TOKEN_LEAST = T_REQUESTS,
+    TOKEN_ROOM = T_REQUESTS + 4 * REQUEST_PLACES,
+    FRAMES_ROOM = MOST_BROADCAST * MESSAGE_ROOM + TOKEN_ROOM
 };
 
 #endif

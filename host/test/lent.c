@@ -72,10 +72,10 @@ struct bytes bytes_of(const void *at, size_t size)
     return b;
 }
 
-uint8_t *lend(enum slot slot, int placing, struct bytes before, bool free)
+uint8_t *lend(enum slot slot, int placing, struct bytes before, bool varied)
 {
     static const uint8_t guards[PLACINGS] = {0xA5, 0x5A, 0xC3};
-    uint8_t mask = free ? (uint8_t)(0x55 * placing) : 0;
+    uint8_t mask = varied ? (uint8_t)(0x55 * placing) : 0;
 
     slots[slot].size = before.size;
     slots[slot].guard = guards[placing];

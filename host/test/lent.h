@@ -31,10 +31,10 @@ struct bytes pattern(size_t size);
 struct bytes bytes_of(const void *at, size_t size);
 
 /*
- * Lends a copy of the bytes. The bytes of a buffer whose `free` is true do not matter to the call: they
- * differ from placing to placing, so that a byte written there always shows.
+ * Lends a copy of the bytes. With `varied`, for a buffer whose bytes do not matter to the call, they differ
+ * from placing to placing, so that a byte written there always shows.
  */
-uint8_t *lend(enum slot slot, int placing, struct bytes before, bool free);
+uint8_t *lend(enum slot slot, int placing, struct bytes before, bool varied);
 
 /*
  * What the call left of a buffer: the first `count` bytes are those at `written`, all others as lent. False

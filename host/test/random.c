@@ -9,6 +9,7 @@
 #include "chance.h"
 #include "expected.h"
 #include "random_station.h"
+#include "records.h"
 #include "samples.h"
 #include "tally.h"
 #include "tests.h"
@@ -17,24 +18,13 @@
 
 static unsigned long seen_whole, seen_broken;
 
-static void try_both(const char *name, const uint8_t *record, uint16_t service, struct bytes content,
-                     size_t room)
+static void try_and_count(const char *name, const uint8_t *record, uint16_t service, struct bytes content,
+                          size_t room)
 {
-    uint8_t after[RECORD_END];
-    unsigned number = posting_refusal(record, RECORD_END, service, content.size);
-
-    memcpy(after, record, RECORD_END);
-    if (number == 0)
-        put_post(after, service, content.at, content.size);
-    if (number == 2)
-        seen_broken++;
-    else
+    if (try_record(name, bytes_of(record, RECORD_END), service, content, room))
         seen_whole++;
-    try_post(name, bytes_of(record, RECORD_END), service, content,
-             number == 0 ? posted() : refused(number), after);
-    number = resending_refusal(record, RECORD_END, room);
-    try_resend(name, bytes_of(record, RECORD_END), pattern(room),
-               number == 0 ? resent(record[TOKEN_SIZE]) : refused(number), record + TOKEN);
+    else
+        seen_broken++;
 }
 
 /* both kinds must have come up, or the group says little */
@@ -65,7 +55,7 @@ static void single_bytes(bool brief)
             if (record[at] != was) {
                 uint16_t service = chance(2);
 
-                try_both(name, record, service, pattern(chance(65)), 1470);
+                try_and_count(name, record, service, pattern(chance(CONTENT_ROOM + 1)), FRAMES_ROOM);
             }
             record[at] = was;
         }
@@ -86,7 +76,7 @@ static void random_bytes(unsigned count)
 
                 record[at] = (uint8_t)chance(256);
             }
-        try_both("random bytes", record, 1, pattern(5), 1470);
+        try_and_count("random bytes", record, 1, pattern(5), FRAMES_ROOM);
     }
     report("random bytes", false);
 }
@@ -100,14 +90,14 @@ static void whole_stations(unsigned count)
     for (unsigned i = 0; i < count; i++) {
         struct station s = random_station();
         uint16_t service = chance(2);
-        struct bytes content = pattern(chance(65));
+        struct bytes content = pattern(chance(CONTENT_ROOM + 1));
 
         station_bytes(&s, record);
         tally_case(name);
         check(broken_clauses(record, RECORD_END) == WHOLE, "the test's own clauses say %u",
               broken_clauses(record, RECORD_END));
-        try_both(name, record, service, content, 1470);
-        if (s.post_count < 16) {
+        try_and_count(name, record, service, content, FRAMES_ROOM);
+        if (s.post_count < POST_PLACES) {
             add_post(&s, service, content.at, content.size);
             station_bytes(&s, after);
             try_post(name, bytes_of(record, RECORD_END), service, content, posted(), after);
@@ -126,12 +116,12 @@ static void changed_stations(unsigned count)
     for (unsigned i = 0; i < count; i++) {
         struct station s = random_station();
         uint16_t service = chance(8) == 0 ? 2 : chance(2);
-        size_t length = chance(67), room = 1468 + chance(8);
+        size_t length = chance(CONTENT_ROOM + 3), room = FRAMES_ROOM - 2 + chance(8);
 
         station_bytes(&s, record);
         for (unsigned n = 1 + chance(2); n > 0; n--)
             change_a_field(record);
-        try_both(name, record, service, pattern(length), room);
+        try_and_count(name, record, service, pattern(length), room);
     }
     report(name, true);
 }
@@ -139,7 +129,7 @@ static void changed_stations(unsigned count)
 static void random_foundings(unsigned count)
 {
     static const char name[] = "random foundings";
-    static const uint32_t rings[] = {0, 1, 4, 2000000000, 2000000001};
+    static const uint32_t rings[] = {0, 1, 4, LIMIT, OVER};
     unsigned long taken = 0;
 
     for (unsigned i = 0; i < count; i++) {
@@ -148,7 +138,7 @@ static void random_foundings(unsigned count)
         unsigned ids_given = chance(10), odd = chance(12) == 0, number;
         uint16_t own = (uint16_t)chance_from(1, 20);
         uint32_t ring = rings[chance(10) < 8 ? chance_from(1, 3) : chance(5)];
-        size_t station_len = 3425 + chance(20) - 1, token_len = 30 + chance(20) - 1;
+        size_t station_len = RECORD_END - 1 + chance(20), token_len = TOKEN_LEAST - 1 + chance(20);
 
         for (unsigned j = 0; j < 10; j++) {
             ids[j] = (uint16_t)(j == 0 ? chance_from(1, 3) : chance_from(j % 7 == 6 ? 0 : 2, 90));
@@ -158,11 +148,7 @@ static void random_foundings(unsigned count)
             own = ids[chance(ids_given)];
         number = founding_refusal(station_len, list, 2 * ids_given + odd, own, ring, token_len);
         if (number == 0) {
-            struct station s = fresh_station(own, ring, ids_given, ids);
-            struct token t = first_token(ring, ids[0]);
-
-            station_bytes(&s, record);
-            token_bytes(&t, frame);
+            founding_bytes(own, ring, ids_given, ids, record, frame);
             taken++;
         }
         try_found(name, pattern(station_len), bytes_of(list, 2 * ids_given + odd), own, ring,

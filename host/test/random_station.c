@@ -3,11 +3,9 @@
 #include "chance.h"
 #include "words.h"
 
-static const uint32_t limit = 2000000000;
-
 static struct content random_content(void)
 {
-    struct content c = some_content(chance(65), 0);
+    struct content c = some_content(chance(CONTENT_ROOM + 1), 0);
 
     chance_bytes(c.bytes, c.length);
     return c;
@@ -21,30 +19,31 @@ static void random_token(struct station *s)
     t->ring = s->ring;
     t->representative = s->members[0];
     t->addressee = s->members[chance(s->member_count)];
-    t->number = chance_from(1, limit);
-    t->highest = chance(2) ? s->level + chance_from(0, limit - s->level) % 40 : chance_from(0, limit);
+    t->number = chance_from(1, LIMIT);
+    t->highest = chance(2) ? s->level + chance_from(0, LIMIT - s->level) % 40 : chance_from(0, LIMIT);
     t->aru = chance(3) == 0 ? t->highest : chance_from(0, t->highest);
     t->blocker = t->aru == t->highest ? 0 : s->members[chance(s->member_count)];
-    t->round = (uint16_t)chance_from(0, 128);
-    t->count = (uint16_t)(t->highest < 17 ? chance_from(0, t->highest) : chance(17));
+    t->round = (uint16_t)chance_from(0, MOST_ROUND);
+    t->count = (uint16_t)chance_from(0, t->highest < REQUEST_PLACES ? t->highest : REQUEST_PLACES);
     for (unsigned i = 0; i < t->count; i++)
         t->requests[i] = t->highest - i;
 }
 
 struct station random_station(void)
 {
-    static const uint32_t safes[] = {0, 1, 31, 32, 1000000, 1999999960, 1999999990, 2000000000};
+    static const uint32_t safes[] = {0,       1,          HELD_PLACES - 1, HELD_PLACES,
+                                     1000000, LIMIT - 40, LIMIT - 10,      LIMIT};
     uint16_t ids[MEMBER_PLACES];
-    unsigned count = chance_from(2, MEMBER_PLACES), own = chance(count), width;
-    uint32_t ring = chance(4) == 0 ? limit : chance_from(1, limit);
+    unsigned count = chance_from(LEAST_MEMBERS, MEMBER_PLACES), own = chance(count), width;
+    uint32_t ring = chance(4) == 0 ? LIMIT : chance_from(1, LIMIT);
     struct station s;
 
     ids[0] = (uint16_t)chance_from(1, 500);
     for (unsigned i = 1; i < count; i++)
         ids[i] = (uint16_t)(ids[0] + (count - i) * chance_from(1, 3) * 1000 + i);
     s = fresh_station(ids[own], ring, count, ids);
-    s.safe = chance(2) ? safes[chance(8)] : chance_from(0, limit);
-    width = limit - s.safe < HELD_PLACES ? limit - s.safe : HELD_PLACES;
+    s.safe = chance(2) ? safes[chance(sizeof safes / sizeof safes[0])] : chance_from(0, LIMIT);
+    width = LIMIT - s.safe < HELD_PLACES ? LIMIT - s.safe : HELD_PLACES;
     s.level = s.safe + chance_from(0, width);
     s.delivered = chance_from(s.safe, s.level);
     for (uint32_t n = s.safe + 1; n <= s.safe + width; n++)
@@ -55,12 +54,12 @@ struct station random_station(void)
         }
     s.aru = chance_from(0, s.level);
     s.earlier = chance(2) ? s.level : chance_from(0, s.level);
-    s.token_number = chance_from(0, limit);
-    s.broadcast = (uint8_t)chance(17);
+    s.token_number = chance_from(0, LIMIT);
+    s.broadcast = (uint8_t)chance(MOST_BROADCAST + 1);
     s.stall = (uint8_t)chance(256);
     if (chance(3) != 0)
         random_token(&s);
-    for (unsigned n = chance(17); n > 0; n--) {
+    for (unsigned n = chance(POST_PLACES + 1); n > 0; n--) {
         struct content c = random_content();
 
         add_post(&s, chance(2), c.bytes, c.length);
@@ -71,11 +70,12 @@ struct station random_station(void)
 /* a value near what the field has, or near an edge of its range */
 static uint32_t near_edge(uint32_t value)
 {
-    static const uint32_t edges[] = {0,  1,   2,   8,     16,         30,         64,
-                                     94, 128, 255, 65535, 1999999999, 2000000000, 4294967295u};
+    static const uint32_t edges[] = {0, 1, LEAST_MEMBERS, MEMBER_PLACES, POST_PLACES, TOKEN_LEAST,
+                                     CONTENT_ROOM, TOKEN_ROOM, MOST_ROUND, 255, 65535, LIMIT - 1, LIMIT,
+                                     ALL_ONES};
 
     if (chance(2) == 0)
-        value = edges[chance(14)];
+        value = edges[chance(sizeof edges / sizeof edges[0])];
     return value + chance(3) - 1;
 }
 
@@ -111,16 +111,16 @@ void change_a_field(uint8_t record[RECORD_END])
         at += chance(CONTENT_ROOM);
         break;
     case 5:
-        pick = chance(11);
-        at = TOKEN + token_words[pick][0];
+        pick = chance(sizeof token_words / sizeof token_words[0]);
+        at = T(token_words[pick][0]);
         width = token_words[pick][1];
         break;
     case 6:
-        at = TOKEN + T_REQUESTS + 4 * chance(16);
+        at = REQUEST(chance(REQUEST_PLACES));
         width = 4;
         break;
     default:
-        pick = chance(13);
+        pick = chance(sizeof words / sizeof words[0]);
         at = words[pick][0];
         width = words[pick][1];
     }

@@ -8,6 +8,26 @@
 #include "whole.h"
 #include "words.h"
 
+bool try_record(const char *name, struct bytes record, uint16_t service, struct bytes content, size_t room)
+{
+    unsigned post = posting_refusal(record.at, record.size, service, content.size);
+    unsigned resend = resending_refusal(record.at, record.size, room);
+    uint8_t after[RECORD_END];
+
+    if (post == 0) {
+        memcpy(after, record.at, RECORD_END);
+        put_post(after, service, content.at, content.size);
+        try_post(name, record, service, content, posted(), after);
+    } else {
+        try_post(name, record, service, content, refused(post), NULL);
+    }
+    if (resend == 0)
+        try_resend(name, record, pattern(room), resent(record.at[TOKEN_SIZE]), record.at + TOKEN);
+    else
+        try_resend(name, record, pattern(room), refused(resend), NULL);
+    return post != 2;
+}
+
 static void make(const struct record_case *c, uint8_t out[RECORD_END])
 {
     struct station s = sample(c->from);
@@ -18,28 +38,6 @@ static void make(const struct record_case *c, uint8_t out[RECORD_END])
             put(out + e->at, e->width, e->value);
         else
             memset(out + e->at, (int)e->value, e->width);
-}
-
-/* a record that is not whole: 2 from both calls */
-static void not_taken(const char *name, const uint8_t *record)
-{
-    try_post(name, bytes_of(record, RECORD_END), 1, pattern(3), refused(2), NULL);
-    try_resend(name, bytes_of(record, RECORD_END), pattern(1470), refused(2), NULL);
-}
-
-static void taken(const char *name, const uint8_t *record)
-{
-    uint8_t after[RECORD_END];
-    struct bytes content = pattern(29);
-    size_t size = record[TOKEN_SIZE];
-
-    memcpy(after, record, RECORD_END);
-    if (record[POST_COUNT] < 16)
-        put_post(after, 1, content.at, content.size);
-    try_post(name, bytes_of(record, RECORD_END), 1, content,
-             record[POST_COUNT] < 16 ? posted() : refused(9), after);
-    try_resend(name, bytes_of(record, RECORD_END), pattern(1470), size == 0 ? refused(19) : resent(size),
-               record + TOKEN);
 }
 
 void try_records(const struct record_case *cases, size_t count)
@@ -53,9 +51,6 @@ void try_records(const struct record_case *cases, size_t count)
         tally_case(cases[i].name);
         broken = broken_clauses(record, RECORD_END);
         check(broken == cases[i].broken, "the test's own clauses say %u, not %u", broken, cases[i].broken);
-        if (cases[i].broken == WHOLE)
-            taken(cases[i].name, record);
-        else
-            not_taken(cases[i].name, record);
+        try_record(cases[i].name, bytes_of(record, RECORD_END), 1, pattern(29), FRAMES_ROOM);
     }
 }

@@ -26,25 +26,22 @@ static void tokens(void)
 {
     struct station s = sample(RICH);
 
-    resend_taken("the remembered token", &s, 1470);
-    resend_taken("again, the record being as it was", &s, 1470);
-    for (unsigned count = 0; count <= 16; count++) {
-        s = sample(RICH);
-        s.token.count = (uint16_t)count;
-        for (unsigned i = 0; i < count; i++)
-            s.token.requests[i] = 50 - 3 * i;
-        resend_taken("tokens of 0 to 16 requests", &s, 1470);
+    resend_taken("the remembered token", &s, FRAMES_ROOM);
+    resend_taken("again, the record being as it was", &s, FRAMES_ROOM);
+    for (unsigned count = 0; count <= REQUEST_PLACES; count++) {
+        s = requesting(count);
+        resend_taken("tokens of 0 to 16 requests", &s, FRAMES_ROOM);
     }
     s = sample(PLAIN);
     s.leave = true;
     s.token = first_token(4, 3);
-    resend_taken("all else fresh", &s, 1470);
+    resend_taken("all else fresh", &s, FRAMES_ROOM);
 }
 
 static void buffers(void)
 {
-    static const size_t small[] = {0, 1, 29, 30, 42, 94, 1469};
-    static const size_t large[] = {1470, 1471, 2752, 65536 + 100};
+    static const size_t small[] = {0, 1, TOKEN_LEAST - 1, TOKEN_LEAST, 42, TOKEN_ROOM, FRAMES_ROOM - 1};
+    static const size_t large[] = {FRAMES_ROOM, FRAMES_ROOM + 1, 2 * FRAMES_ROOM, 65536 + 100};
     struct station s = sample(RICH);
 
     for (size_t i = 0; i < sizeof large / sizeof large[0]; i++)
@@ -59,31 +56,16 @@ static void order(void)
     struct station s = sample(PLAIN), broken = sample(PLAIN);
 
     broken.own = 8;
-    resend_refused("19, fresh", &s, pattern(1470), 19);
-    resend_refused("1 before 2, 19", &broken, pattern(1469), 1);
-    resend_refused("1 before 19", &s, pattern(1469), 1);
-    resend_refused("2 before 19", &broken, pattern(1470), 2);
+    resend_refused("19, fresh", &s, pattern(FRAMES_ROOM), 19);
+    resend_refused("1 before 2, 19", &broken, pattern(FRAMES_ROOM - 1), 1);
+    resend_refused("1 before 19", &s, pattern(FRAMES_ROOM - 1), 1);
+    resend_refused("2 before 19", &broken, pattern(FRAMES_ROOM), 2);
     s = sample(RICH);
     s.leave = false;
-    resend_refused("19, all else in use", &s, pattern(1470), 19);
+    resend_refused("19, all else in use", &s, pattern(FRAMES_ROOM), 19);
     s = sample(FULL);
-    resend_refused("19, full", &s, pattern(1470), 19);
-}
-
-static void lengths(void)
-{
-    static const size_t lengths[] = {0, 1, 2, 3424, 3426, 6850, 10000, 65536 + 3425};
-    static uint8_t all[65536 + 3425];
-    struct station s = sample(RICH);
-
-    station_bytes(&s, all);
-    for (size_t i = 0; i < sizeof lengths / sizeof lengths[0]; i++) {
-        try_resend("a record of another length", bytes_of(all, lengths[i]), pattern(1470), refused(2), NULL);
-        try_resend("1 before a record's length", bytes_of(all, lengths[i]), pattern(1469), refused(1), NULL);
-    }
-    try_resend("no record lent", null_bytes(), pattern(1470), refused(2), NULL);
+    resend_refused("19, full", &s, pattern(FRAMES_ROOM), 19);
     try_resend("nothing lent", null_bytes(), null_bytes(), refused(1), NULL);
-    try_resend("a record of zeros", bytes_of(all + RECORD_END, RECORD_END), pattern(1470), refused(2), NULL);
 }
 
 void test_resending(void)
@@ -92,5 +74,4 @@ void test_resending(void)
     tokens();
     buffers();
     order();
-    lengths();
 }

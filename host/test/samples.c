@@ -23,13 +23,13 @@ static struct station rich(void)
     struct station s = fresh_station(7, 4, 4, members);
     const struct token forwarded = {4, 3, 9, 19, 50, 43, 7, 12, 3, {46, 48, 49}};
 
-    hold(&s, 41, 3, 0, some_content(64, 200));
+    hold(&s, 41, 3, 0, some_content(CONTENT_ROOM, 200));
     hold(&s, 42, 7, 1, some_content(0, 0));
     hold(&s, 43, 9, 0, some_content(1, 77));
-    hold(&s, 44, 12, 1, some_content(63, 1));
+    hold(&s, 44, 12, 1, some_content(CONTENT_ROOM - 1, 1));
     hold(&s, 45, 7, 1, some_content(10, 250));
     hold(&s, 47, 3, 0, some_content(5, 9));
-    hold(&s, 50, 12, 1, some_content(64, 3));
+    hold(&s, 50, 12, 1, some_content(CONTENT_ROOM, 3));
     hold(&s, 72, 9, 0, some_content(2, 100));
     s.safe = 40;
     s.delivered = 42;
@@ -43,7 +43,7 @@ static struct station rich(void)
     s.token = forwarded;
     add_post(&s, 1, (const uint8_t *)"crown", 5);
     add_post(&s, 0, (const uint8_t *)"", 0);
-    add_post(&s, 1, some_content(64, 11).bytes, 64);
+    add_post(&s, 1, some_content(CONTENT_ROOM, 11).bytes, CONTENT_ROOM);
     add_post(&s, 0, (const uint8_t *)"\0throat\0", 8);
     return s;
 }
@@ -53,11 +53,11 @@ static struct station full(void)
     struct station s = plain();
 
     for (uint32_t n = 101; n <= 132; n++)
-        hold(&s, n, members[n % 3], n % 2, some_content(n % 65, n));
+        hold(&s, n, members[n % 3], n % 2, some_content(n % (CONTENT_ROOM + 1), n));
     s.safe = 100;
     s.delivered = 117;
     s.level = 132;
-    for (unsigned i = 0; i < 16; i++)
+    for (unsigned i = 0; i < POST_PLACES; i++)
         add_post(&s, i % 2, some_content(4 * i, i).bytes, 4 * i);
     return s;
 }
@@ -66,16 +66,16 @@ static struct station last(void)
 {
     struct station s = plain();
 
-    s.safe = s.delivered = s.level = 2000000000;
+    s.safe = s.delivered = s.level = LIMIT;
     return s;
 }
 
-static struct station long_token(void)
+struct station requesting(unsigned count)
 {
     struct station s = rich();
 
-    s.token.count = 16;
-    for (unsigned i = 0; i < 16; i++)
+    s.token.count = (uint16_t)count;
+    for (unsigned i = 0; i < count; i++)
         s.token.requests[i] = 50 - 3 * i;
     return s;
 }
@@ -92,7 +92,7 @@ struct station sample(enum sample which)
     case LAST:
         return last();
     case LONG:
-        return long_token();
+        return requesting(REQUEST_PLACES);
     default:
         return plain();
     }

@@ -15,4 +15,7 @@ enum sample {
 
 struct station sample(enum sample which);
 
+/* the rich one with a token of that many requests */
+struct station requesting(unsigned count);
+
 #endif

@@ -1,4 +1,4 @@
-/* The header's numbers, the struct, and the table of docs/RECORD.md against the encoder. */
+/* The header's numbers as numerals, the struct, and the table of docs/RECORD.md against the encoder. */
 #include <stddef.h>
 #include <string.h>
 
@@ -11,9 +11,11 @@
 static void numbers(void)
 {
     tally_case("the header's numbers");
-    check(TOTEM_STATION_LEN == RECORD_END, "the record's length");
-    check(TOTEM_FRAMES_LEN == 16 * 86 + 94, "the buffer for frames: 16 messages and a token");
-    check(TOTEM_DELIVERIES_LEN == 32 * 86, "the buffer for deliveries: 32 messages");
+    check(TOTEM_STATION_LEN == 3425 && RECORD_END == 3425, "the record's length");
+    check(TOTEM_FRAMES_LEN == 1470 && FRAMES_ROOM == 1470, "the buffer for frames: 16 messages and a token");
+    check(TOTEM_DELIVERIES_LEN == 2752 && HELD_PLACES * MESSAGE_ROOM == 2752,
+          "the buffer for deliveries: 32 messages");
+    check(TOKEN_LEAST == 30 && TOKEN_ROOM == 94, "the sizes of a token");
     check(TOTEM_TOKEN_LEN == 30 && TOTEM_MOST_CONTENT == 64 && TOTEM_MOST_NUMBER == 2000000000, "sizes");
     check(TOTEM_LEAST_MEMBERS == 2 && TOTEM_MOST_MEMBERS == 8 && TOTEM_MOST_POSTS == 16, "counts");
     check(TOTEM_AGREED == 0 && TOTEM_SAFE == 1, "services");

@@ -78,7 +78,7 @@ size_t token_bytes(const struct token *t, uint8_t out[TOKEN_ROOM])
 {
     uint8_t *at = out;
 
-    at = word(at, 2, 28u + 4u * t->count);
+    at = word(at, 2, TOKEN_LEAST - 2 + 4u * t->count);
     at = word(at, 2, 2);
     at = word(at, 4, t->ring);
     at = word(at, 2, t->representative);
@@ -146,4 +146,14 @@ void station_bytes(const struct station *s, uint8_t out[RECORD_END])
         at = bytes(at, &s->posts[i].content);
     if (at != out + RECORD_END)
         abort();
+}
+
+void founding_bytes(uint16_t own, uint32_t ring, unsigned count, const uint16_t *members,
+                    uint8_t record[RECORD_END], uint8_t token[TOKEN_ROOM])
+{
+    struct station s = fresh_station(own, ring, count, members);
+    struct token t = first_token(ring, members[0]);
+
+    station_bytes(&s, record);
+    token_bytes(&t, token);
 }

@@ -29,7 +29,7 @@ struct token {
     uint16_t representative, addressee;
     uint32_t number, highest, aru;
     uint16_t blocker, round, count;
-    uint32_t requests[16];
+    uint32_t requests[REQUEST_PLACES];
 };
 
 struct station {
@@ -64,5 +64,9 @@ struct token first_token(uint32_t ring, uint16_t representative);
 size_t token_bytes(const struct token *t, uint8_t out[TOKEN_ROOM]);
 
 void station_bytes(const struct station *s, uint8_t out[RECORD_END]);
+
+/* what founding writes */
+void founding_bytes(uint16_t own, uint32_t ring, unsigned count, const uint16_t *members,
+                    uint8_t record[RECORD_END], uint8_t token[TOKEN_ROOM]);
 
 #endif

@@ -80,6 +80,10 @@ int tally_end(void)
         printf("host: %lu checks failed, %lu passed\n", failed, passed);
         return 1;
     }
+    if (passed == 0) {
+        printf("host: FAILED: no check ran\n");
+        return 1;
+    }
     printf("host: %lu checks passed\n", passed);
     return 0;
 }

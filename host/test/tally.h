@@ -13,7 +13,7 @@ void check(bool good, const char *format, ...) __attribute__((format(printf, 2, 
 /* a call that stops the program (a byte outside the lent ones, a trap) is a failure with a name */
 void tally_catch_signals(void);
 
-/* prints the last line and gives the exit status */
+/* prints the last line and gives the exit status: a failure too where no check ran */
 int tally_end(void);
 
 #endif

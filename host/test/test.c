@@ -1,4 +1,7 @@
-/* The test of the C calls. With the argument 'brief' most of the random part is left out. */
+/*
+ * The test of the C calls. With the argument 'brief', the form for valgrind, most of the random part is left
+ * out, and the measuring of the stack: valgrind lets nobody read a stack's bytes below its end.
+ */
 #include <stdio.h>
 #include <string.h>
 
@@ -24,5 +27,7 @@ int main(int count, char **arguments)
     test_not_whole();
     test_use();
     test_random(brief);
+    if (!brief)
+        test_stack();
     return tally_end();
 }

@@ -12,5 +12,6 @@ void test_whole(void);
 void test_not_whole(void);
 void test_use(void);
 void test_random(bool brief);
+void test_stack(void);
 
 #endif

@@ -30,11 +30,13 @@ static void three_stations(void)
                    founded()),
               "founding at %u", ids[i]);
     }
-    check(memcmp(tokens[0], tokens[1], 30) == 0 && memcmp(tokens[0], tokens[2], 30) == 0, "one first token");
-    for (unsigned round = 0; round < 18; round++)
+    check(memcmp(tokens[0], tokens[1], TOTEM_TOKEN_LEN) == 0
+              && memcmp(tokens[0], tokens[2], TOTEM_TOKEN_LEN) == 0,
+          "one first token");
+    for (unsigned round = 0; round < TOTEM_MOST_POSTS + 2; round++)
         for (unsigned i = 0; i < 3; i++) {
             uint8_t content[3] = {(uint8_t)round, (uint8_t)i, 0xFE};
-            bool room = s[i].post_count < 16;
+            bool room = s[i].post_count < TOTEM_MOST_POSTS;
 
             check(same(totem_post(records[i], TOTEM_STATION_LEN, i % 2, content, i),
                        room ? posted() : refused(9)),
@@ -46,7 +48,9 @@ static void three_stations(void)
             check(same(totem_resend(records[i], TOTEM_STATION_LEN, frames, sizeof frames), refused(19)),
                   "resending at %u", ids[i]);
         }
-    check(same(totem_found(records[1], sizeof records[1], list, sizeof list, 7, 5, tokens[1], 30), founded()),
+    check(same(totem_found(records[1], sizeof records[1], list, sizeof list, 7, 5, tokens[1],
+                           sizeof tokens[1]),
+               founded()),
           "founding again over a record in use");
     s[1] = fresh_station(7, 5, 3, ids);
     station_bytes(&s[1], expected);

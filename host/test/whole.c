@@ -5,8 +5,6 @@
 #include "layout.h"
 #include "words.h"
 
-static const uint32_t most_number = 2000000000;
-
 static bool zero(const uint8_t *at, size_t size)
 {
     for (size_t i = 0; i < size; i++)
@@ -46,7 +44,7 @@ static bool in_range(const uint8_t *r)
     uint64_t safe = get(r + SAFE, 4);
 
     for (size_t i = 0; i < sizeof numbers / sizeof numbers[0]; i++)
-        if (get(r + numbers[i], 4) > most_number)
+        if (get(r + numbers[i], 4) > LIMIT)
             return false;
     for (int i = 0; i < HELD_PLACES; i++)
         if (get(r + SERVICES + 2 * i, 2) > 1 || r[LENGTHS + i] > CONTENT_ROOM)
@@ -55,9 +53,9 @@ static bool in_range(const uint8_t *r)
         if (get(r + POST_SERVICE(i), 2) > 1 || r[POST_LENGTH(i)] > CONTENT_ROOM)
             return false;
     for (uint64_t n = safe + 1; n <= safe + HELD_PLACES; n++)
-        if (n > most_number && place_used(r, n))
+        if (n > LIMIT && place_used(r, n))
             return false;
-    return r[MEMBER_COUNT] <= MEMBER_PLACES && r[BROADCAST] <= 16 && r[TOKEN_SIZE] <= TOKEN_ROOM
+    return r[MEMBER_COUNT] <= MEMBER_PLACES && r[BROADCAST] <= MOST_BROADCAST && r[TOKEN_SIZE] <= TOKEN_ROOM
            && r[POST_COUNT] <= POST_PLACES;
 }
 
@@ -97,13 +95,13 @@ static bool token_passes(const uint8_t *r, const uint8_t *t, size_t size)
     aru = get(t + T_ARU, 4);
     blocker = get(t + T_BLOCKER, 2);
     count = get(t + T_COUNT, 2);
-    if (count > 16 || size != T_REQUESTS + 4 * count || !requests_follow(t, count, highest))
+    if (count > REQUEST_PLACES || size != T_REQUESTS + 4 * count || !requests_follow(t, count, highest))
         return false;
-    if (get(t + T_NUMBER, 4) < 1 || get(t + T_NUMBER, 4) > most_number || highest > most_number)
+    if (get(t + T_NUMBER, 4) < 1 || get(t + T_NUMBER, 4) > LIMIT || highest > LIMIT)
         return false;
-    if (aru > highest || (blocker == 0) != (aru == highest) || get(t + T_ROUND, 2) > 128)
+    if (aru > highest || (blocker == 0) != (aru == highest) || get(t + T_ROUND, 2) > MOST_ROUND)
         return false;
-    if (ring < 1 || ring > most_number || get(t + T_REPRESENTATIVE, 2) == 0 || get(t + T_ADDRESSEE, 2) == 0)
+    if (ring < 1 || ring > LIMIT || get(t + T_REPRESENTATIVE, 2) == 0 || get(t + T_ADDRESSEE, 2) == 0)
         return false;
     if (ring != get(r + RING, 4) || r[MEMBER_COUNT] == 0
         || get(t + T_REPRESENTATIVE, 2) != get(r + MEMBER(0), 2))
@@ -115,7 +113,7 @@ static bool founding_holds(const uint8_t *r)
 {
     uint32_t count = r[MEMBER_COUNT], ring = get(r + RING, 4);
 
-    if (count < 2 || count > 8)
+    if (count < LEAST_MEMBERS || count > MEMBER_PLACES)
         return false;
     for (uint32_t i = 0; i < count; i++) {
         if (get(r + MEMBER(i), 2) == 0 || get(r + MEMBER(i), 2) < get(r + MEMBER(0), 2))
@@ -124,7 +122,7 @@ static bool founding_holds(const uint8_t *r)
             if (get(r + MEMBER(i), 2) == get(r + MEMBER(j), 2))
                 return false;
     }
-    return is_member(r, get(r + OWN, 2)) && 1 <= ring && ring <= most_number;
+    return is_member(r, get(r + OWN, 2)) && 1 <= ring && ring <= LIMIT;
 }
 
 static bool held_to_level(const uint8_t *r)

@@ -4,9 +4,6 @@
 #include "tests.h"
 #include "whole.h"
 
-#define LIMIT 2000000000u
-#define T(field) (TOKEN + (field))
-
 static const struct record_case cases[] = {
     {"as it is: plain", PLAIN, WHOLE, {{0}}},
     {"as it is: level 7, all else fresh", LEVEL_7, WHOLE, {{0}}},
@@ -18,9 +15,10 @@ static const struct record_case cases[] = {
     /* the station and its members */
     {"own id first", RICH, WHOLE, {{OWN, 2, 3}}},
     {"own id last", RICH, WHOLE, {{OWN, 2, 12}}},
-    {"2 members", PLAIN, WHOLE, {{MEMBER_COUNT, 1, 2}, {MEMBER(2), 2, 0}}},
-    {"8 members", PLAIN, WHOLE, {{MEMBER_COUNT, 1, 8}, {MEMBER(3), 4, 0x00050004}, {MEMBER(5), 4, 0xFFFF0006},
-                                 {MEMBER(7), 2, 300}}},
+    {"2 members", PLAIN, WHOLE, {{MEMBER_COUNT, 1, LEAST_MEMBERS}, {MEMBER(2), 2, 0}}},
+    {"8 members", PLAIN, WHOLE,
+     {{MEMBER_COUNT, 1, MEMBER_PLACES}, {MEMBER(3), 4, 0x00050004}, {MEMBER(5), 4, 0xFFFF0006},
+      {MEMBER(7), 2, 300}}},
     {"members after the first in any order", PLAIN, WHOLE, {{MEMBER(1), 2, 9}, {MEMBER(2), 2, 7}}},
     {"representative 1", PLAIN, WHOLE, {{MEMBER(0), 2, 1}}},
     {"a member 65535", PLAIN, WHOLE, {{MEMBER(2), 2, 65535}}},
@@ -35,18 +33,17 @@ static const struct record_case cases[] = {
     {"a message held at level + 2", LEVEL_7, WHOLE, {{SENDER(9), 2, 3}}},
     {"a message held at safe mark + 32", PLAIN, WHOLE, {{SENDER(32), 2, 3}}},
     {"a message held at 31, of service 1 and 64 bytes", PLAIN, WHOLE,
-     {{SENDER(31), 2, 9}, {SERVICE(31), 2, 1}, {LENGTH(31), 1, 64}, {CONTENT(31), 64, 255}}},
+     {{SENDER(31), 2, 9}, {SERVICE(31), 2, 1}, {LENGTH(31), 1, CONTENT_ROOM},
+      {CONTENT(31), CONTENT_ROOM, 255}}},
     {"one free place alone, that of safe mark + 32", FULL, WHOLE,
-     {{SAFE, 4, 101}, {LEVEL, 4, 132}, {SENDER(101), 2, 0}, {SERVICE(101), 2, 0}, {LENGTH(101), 1, 0},
-      {CONTENT(101), 64, 0}}},
+     {{SAFE, 4, 101}, {LEVEL, 4, 132}, NOT_HELD(101)}},
     {"all held above the level", FULL, WHOLE,
-     {{LEVEL, 4, 117}, {SENDER(118), 2, 0}, {SERVICE(118), 2, 0}, {LENGTH(118), 1, 0},
-      {CONTENT(118), 64, 0}}},
+     {{LEVEL, 4, 117}, NOT_HELD(118)}},
     {"2,000,000,000 held above the level", LAST, WHOLE,
      {{SAFE, 4, LIMIT - 2}, {DELIVERED, 4, LIMIT - 2}, {LEVEL, 4, LIMIT - 2}, {SENDER(LIMIT), 2, 3}}},
     {"2,000,000,000 held at the level", LAST, WHOLE,
      {{SAFE, 4, LIMIT - 1}, {DELIVERED, 4, LIMIT - 1}, {SENDER(LIMIT), 2, 3}}},
-    {"a content of zeros", RICH, WHOLE, {{CONTENT(41), 64, 0}}},
+    {"a content of zeros", RICH, WHOLE, {{CONTENT(41), CONTENT_ROOM, 0}}},
     {"a length 0 without content", RICH, WHOLE, {{LENGTH(43), 1, 0}, {CONTENT(43), 1, 0}}},
 
     /* from one visit to the next */
@@ -55,11 +52,11 @@ static const struct record_case cases[] = {
     {"both aru 2,000,000,000", LAST, WHOLE, {{ARU, 4, LIMIT}, {EARLIER, 4, LIMIT}}},
     {"both aru below the safe mark", RICH, WHOLE, {{ARU, 4, 1}, {EARLIER, 4, 0}}},
     {"token number 2,000,000,000", PLAIN, WHOLE, {{TOKEN_NUMBER, 4, LIMIT}}},
-    {"16 broadcast", PLAIN, WHOLE, {{BROADCAST, 1, 16}}},
+    {"16 broadcast", PLAIN, WHOLE, {{BROADCAST, 1, MOST_BROADCAST}}},
     {"stall count 255", PLAIN, WHOLE, {{STALL, 1, 255}}},
 
     /* the token that may be resent */
-    {"no leave, all else in use", RICH, WHOLE, {{TOKEN_SIZE, 1, 0}, {TOKEN, 94, 0}}},
+    {"no leave, all else in use", RICH, WHOLE, {{TOKEN_SIZE, 1, 0}, {TOKEN, TOKEN_ROOM, 0}}},
     {"another number than the record's", RICH, WHOLE, {{T(T_NUMBER), 4, 7}}},
     {"number 2,000,000,000", RICH, WHOLE, {{T(T_NUMBER), 4, LIMIT}}},
     {"number 1", RICH, WHOLE, {{T(T_NUMBER), 4, 1}}},
@@ -71,22 +68,20 @@ static const struct record_case cases[] = {
     {"another blocker", RICH, WHOLE, {{T(T_BLOCKER), 2, 12}}},
     {"aru 0", RICH, WHOLE, {{T(T_ARU), 4, 0}}},
     {"round count 0", RICH, WHOLE, {{T(T_ROUND), 2, 0}}},
-    {"round count 128", RICH, WHOLE, {{T(T_ROUND), 2, 128}}},
+    {"round count 128", RICH, WHOLE, {{T(T_ROUND), 2, MOST_ROUND}}},
     {"requests 1, 50 and one that is held", RICH, WHOLE,
-     {{T(T_REQUESTS), 4, 1}, {T(T_REQUESTS) + 4, 4, 50}, {T(T_REQUESTS) + 8, 4, 41}}},
-    {"2 requests", RICH, WHOLE,
-     {{TOKEN_SIZE, 1, 38}, {T(T_LENGTH), 2, 36}, {T(T_COUNT), 2, 2}, {T(T_REQUESTS) + 8, 4, 0}}},
-    {"4 requests", RICH, WHOLE,
-     {{TOKEN_SIZE, 1, 46}, {T(T_LENGTH), 2, 44}, {T(T_COUNT), 2, 4}, {T(T_REQUESTS) + 12, 4, 2}}},
+     {{REQUEST(0), 4, 1}, {REQUEST(1), 4, 50}, {REQUEST(2), 4, 41}}},
+    {"2 requests", RICH, WHOLE, {SIZE(38), {T(T_COUNT), 2, 2}, {REQUEST(2), 4, 0}}},
+    {"4 requests", RICH, WHOLE, {SIZE(46), {T(T_COUNT), 2, 4}, {REQUEST(3), 4, 2}}},
     {"highest 0 and no requests, nobody", RICH, WHOLE,
-     {{TOKEN_SIZE, 1, 30}, {T(T_LENGTH), 2, 28}, {T(T_HIGHEST), 8, 0}, {T(T_BLOCKER), 2, 0},
-      {T(T_COUNT), 64, 0}}},
+     {SIZE(TOKEN_LEAST), {T(T_HIGHEST), 8, 0}, {T(T_BLOCKER), 2, 0}, {T(T_COUNT), TOKEN_ROOM - T_COUNT, 0}}},
 
     /* waiting posts */
-    {"16 posts", RICH, WHOLE, {{POST_COUNT, 1, 16}}},
-    {"15 posts", RICH, WHOLE, {{POST_COUNT, 1, 15}}},
+    {"16 posts", RICH, WHOLE, {{POST_COUNT, 1, POST_PLACES}}},
+    {"15 posts", RICH, WHOLE, {{POST_COUNT, 1, POST_PLACES - 1}}},
     {"a post of 64 bytes in the last place", RICH, WHOLE,
-     {{POST_COUNT, 1, 16}, {POST_SERVICE(15), 2, 1}, {POST_LENGTH(15), 1, 64}, {POST_CONTENT(15), 64, 9}}},
+     {{POST_COUNT, 1, POST_PLACES}, {POST_SERVICE(15), 2, 1}, {POST_LENGTH(15), 1, CONTENT_ROOM},
+      {POST_CONTENT(15), CONTENT_ROOM, 9}}},
     {"an empty safe post", RICH, WHOLE, {{POST_SERVICE(1), 2, 1}}},
 };
 
