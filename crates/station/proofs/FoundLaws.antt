@@ -19,7 +19,7 @@ use Rattle.record.specs.Size.{leastMembers, mostMembers}
 use Rattle.record.specs.Members.{representative, membersCounted, idsFollow, ownAmong, ringInRange, foundable}
 use Rattle.record.specs.Fresh.{fresh}
 use Rattle.record.specs.declared.Record.{Record}
-use Rattle.station.specs.Reply.{refused, over}
+use Rattle.station.specs.Reply.{refused, followedBy}
 use Rattle.station.specs.Found.{firstToken, founded}
 use Rattle.station.specs.declared.refusal.Refusal.the-variants.{NoRoom, MemberCount, BadIds, NotAmong, BadRing}
 use Rattle.station.specs.declared.answer.Answer.the-variants.{Founded}
@@ -82,7 +82,7 @@ pub first-written : (ids : List ℕ) (own ring : ℕ) (out out′ : List ℕ)
     → foundable ids own ring ≡ true
     → shortestToken ≤ length out
     → out′ ≡ (tokenWritten (firstToken ids ring) out) .out
-    → out′ ≡ over (tokenBytes (firstToken ids ring)) out
+    → out′ ≡ followedBy (tokenBytes (firstToken ids ring)) out
 unfolding written
 first-written ids own ring out out′ e room w =
     let size = first-length ids ring in

@@ -3,7 +3,7 @@ use Prim.Native.Nat.{ℕ}
 use mathlib.Core.Path.{_≡_, refl}
 use mathlib.Core.List.{List}
 use Rattle.record.specs.declared.Record.{Record}
-use Rattle.station.specs.Reply.{Reply, refused, over, doneOf}
+use Rattle.station.specs.Reply.{Reply, refused, followedBy, doneOf}
 use Rattle.station.specs.declared.refusal.Refusal.{Refusal}
 use Rattle.station.specs.declared.done.Done.{Done}
 
@@ -11,13 +11,13 @@ use Rattle.station.specs.declared.done.Done.{Done}
 pub leaves : (reply known : Reply) (done : Done) (out out′ : List ℕ)
     → reply ≡ known
     → done ≡ doneOf known
-    → out′ ≡ over (known .frames) out
-    → (done ≡ doneOf reply) × (out′ ≡ over (reply .frames) out)
+    → out′ ≡ followedBy (known .frames) out
+    → (done ≡ doneOf reply) × (out′ ≡ followedBy (reply .frames) out)
 leaves reply known done out out′ e d o = rw e (d, o)
 
 -- a refusal leaves every byte as it was
 pub leaves-all : (reply : Reply) (r : Record) (why : Refusal) (done : Done) (out : List ℕ)
     → reply ≡ refused r why
     → done ≡ doneOf (refused r why)
-    → (done ≡ doneOf reply) × (out ≡ over (reply .frames) out)
+    → (done ≡ doneOf reply) × (out ≡ followedBy (reply .frames) out)
 leaves-all reply r why done out e d = leaves reply (refused r why) done out out e d refl

@@ -1,22 +1,22 @@
 -- Resending, question by question.
 use Prim.Native.Nat.{ℕ, _-_, _≤_, _<_}
 use mathlib.Core.Path.{_≡_, _∙_}
-use mathlib.Core.Bool.{true, false, and-false}
+use mathlib.Core.Bool.{true, false}
 use mathlib.Core.List.{List, []}
-use borrow.Author.Tests.{le-leb, lt-leb, leb-true, eq-eqb, ne-eqb}
+use borrow.Author.Tests.{le-leb, lt-leb, eq-eqb, ne-eqb}
 use native.Mathlib.Nat.{sub-zero}
 use native.Mathlib.Omega.{arith}
 use lib.ListN.{length, take}
-use lib.Dec.{leb}
 use lib.Seq.{sets, length-take-le}
 use Rattle.words.proofs.StoreLaws.{front-stored}
 use Rattle.frames.specs.Layout.{longestToken}
 use Rattle.frames.proofs.Facts.{part}
 use Rattle.record.specs.Turn.{remembered}
-use Rattle.record.specs.Whole.{turnInRange, inRange, whole}
+use Rattle.record.specs.Whole.{inRange, whole}
 use Rattle.record.specs.declared.Record.{Record}
 use Rattle.record.specs.declared.turn.Turn.{Turn}
-use Rattle.station.specs.Reply.{refused, over, mostFrames}
+use Rattle.record.proofs.RangeFacts.{record-range}
+use Rattle.station.specs.Reply.{refused, followedBy, mostFrames}
 use Rattle.station.specs.Resend.{resent}
 use Rattle.station.specs.declared.refusal.Refusal.the-variants.{NoRoom, NotWhole, NoLeave}
 use Rattle.station.specs.declared.answer.Answer.the-variants.{Resent}
@@ -42,9 +42,8 @@ module _ (r : Record) (room : ℕ) where
 
 -- a whole record's token fits
 pub token-fits : (r : Record) → whole r ≡ true → r .turn .size ≤ longestToken
-unfolding whole inRange turnInRange
-token-fits r w =
-    leb-true (r .turn .size) longestToken (part w (λ (f : leb (r .turn .size) longestToken ≡ false). simp (f, and-false)))
+unfolding whole
+token-fits r w = record-range r (part w (λ (f : inRange r ≡ false). rw f)) .turn .size
 
 -- the remembered token, as the code spells it, stored at the front
 pub remembered-stored : (t : Turn) (out out′ : List ℕ)
@@ -52,7 +51,7 @@ pub remembered-stored : (t : Turn) (out out′ : List ℕ)
     → t .size ≤ longestToken
     → longestToken ≤ length out
     → out′ ≡ sets out 0 (take (t .size - 0) (t .token))
-    → out′ ≡ over (remembered t) out
+    → out′ ≡ followedBy (remembered t) out
 remembered-stored t out out′ long fits room e =
     let size : length (remembered t) ≡ t .size = length-take-le (t .size) (t .token) (omega arith) in
     rw sub-zero at e ∙ front-stored (t .size) (remembered t) out size (omega arith) ∙ rw size

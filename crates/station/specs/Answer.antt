@@ -7,12 +7,12 @@ use Rattle.station.specs.declared.answer.Answer.{Answer}
 use Rattle.station.specs.declared.answer.Answer.the-variants.{Refused, Founded, Posted, Resent}
 use Rattle.station.specs.declared.answer.Outcome.{Outcome}
 
--- nothing is refused: what happened, and the counts
-abbrev pub happened : ℕ → ℕ → Outcome
-happened outcome frames = record { refusal = 0; outcome = outcome; frames = frames; deliveries = 0; deaf = 0 }
+-- nothing is refused: what happened, the counts, and the id in the notice 'deaf'
+abbrev pub happened : ℕ → ℕ → ℕ → ℕ → Outcome
+happened outcome frames deliveries deaf = record { refusal = 0; outcome = outcome; frames = frames; deliveries = deliveries; deaf = deaf }
 
 abbrev pub outcomeOf : Answer → Outcome
 outcomeOf (Refused why) = record { refusal = refusalNumber why; outcome = 0; frames = 0; deliveries = 0; deaf = 0 }
-outcomeOf Founded = happened 1 shortestToken
-outcomeOf Posted = happened 2 0
-outcomeOf (Resent n) = happened 7 n
+outcomeOf Founded = happened 1 shortestToken 0 0
+outcomeOf Posted = happened 2 0 0 0
+outcomeOf (Resent n) = happened 7 n 0 0

@@ -3,7 +3,8 @@ use Prim.Native.Nat.{ℕ}
 use mathlib.Core.Bool.{Bool}
 use mathlib.Core.List.{List, []}
 use lib.ListN.{replicate}
-use Rattle.frames.specs.Layout.{mostRequests}
+use lib.Dec.{leb}
+use Rattle.frames.specs.Layout.{mostRequests, shortestToken}
 use Rattle.frames.specs.Token.{tokenBytes}
 use Rattle.frames.specs.declared.token.Blocker.the-variants.{Nobody}
 use Rattle.frames.specs.declared.token.Token.{Token}
@@ -43,3 +44,7 @@ founded r room ids own ring =
       frames = tokenBytes (firstToken ids ring);
       deliveries = [];
     })))))
+
+-- on a struct question 1 asks for the token's buffer alone
+abbrev pub foundedOn : Record → ℕ → List ℕ → ℕ → ℕ → Reply
+foundedOn r room ids own ring = founded r (leb shortestToken room) ids own ring

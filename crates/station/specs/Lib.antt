@@ -4,5 +4,5 @@ pub mod Reply
 pub mod Found
 pub mod Post
 pub mod Resend
-pub mod Kept
+pub mod EveryReply
 pub mod Trials

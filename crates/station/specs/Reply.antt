@@ -26,8 +26,8 @@ abbrev pub asks : Record → Bool → Refusal → Reply → Reply
 asks r question why rest = cond question rest (refused r why)
 
 -- an output buffer afterwards: the bytes written, followed by what stood after them
-abbrev pub over : List ℕ → List ℕ → List ℕ
-over bytes out = bytes ++ drop (length bytes) out
+abbrev pub followedBy : List ℕ → List ℕ → List ℕ
+followedBy bytes out = bytes ++ drop (length bytes) out
 
 -- question 1's bound on the buffer for frames: what a visit broadcasts at most, and the token
 abbrev pub mostFrames : ℕ

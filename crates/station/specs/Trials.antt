@@ -5,10 +5,11 @@ use mathlib.Core.Bool.{Bool, true, false, _&&_, cond}
 use mathlib.Core.List.{List, [], _∷_, _++_}
 use lib.ListN.{replicate}
 use lib.Dec.{eqb}
+use Rattle.record.specs.Layout.{recordSize}
 use Rattle.record.specs.Fresh.{fresh}
 use Rattle.record.specs.declared.Record.{Record}
 use Rattle.station.specs.Answer.{outcomeOf}
-use Rattle.station.specs.Reply.{Reply}
+use Rattle.station.specs.Reply.{Reply, mostFrames}
 use Rattle.station.specs.Found.{founded}
 use Rattle.station.specs.Post.{posted}
 use Rattle.station.specs.Resend.{resent}
@@ -109,9 +110,13 @@ resending =
     ∷ row (refusal (resent (fresh (7 ∷ []) 7 4) 1470)) 2
     ∷ []
 
+-- the sizes that hosts know
+abbrev pub sizes : List Trial
+sizes = row recordSize 3425 ∷ row mostFrames 1470 ∷ []
+
 unfoldable pub allPass : List Trial → Bool
 allPass [] = true
 allPass (t ∷ ts) = eqb (t .gives) (t .wanted) && allPass ts
 
 abbrev pub table : List Trial
-table = founding ++ posting ++ resending
+table = founding ++ posting ++ resending ++ sizes

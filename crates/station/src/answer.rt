@@ -1,6 +1,6 @@
 // What a call answers, and the same in document 01's numbers.
 ghost use mathlib.Core.Path.{_≡_};
-ghost use Rattle.station.specs.Answer.{outcomeOf};
+ghost use Rattle.station.specs.Answer.{happened, outcomeOf};
 use crate::refusal;
 use crate::refusal::Refusal;
 
@@ -27,6 +27,19 @@ pub struct Outcome {
     pub deaf: u16,
 }
 
+// Nothing is refused: what happened, the counts, and the id in the notice 'deaf'.
+fn happened(outcome: u16, frames: u16, deliveries: u16, deaf: u16) -> Outcome
+    ensures { λ r. ⌜ r ≡ happened outcome frames deliveries deaf ⌝ }
+{
+    Outcome {
+        refusal: 0,
+        outcome,
+        frames,
+        deliveries,
+        deaf,
+    }
+}
+
 // Ruled out: a count with a refusal; a refusal that reads like an outcome.
 pub fn outcome_of(a: Answer) -> Outcome
     ensures { λ r. ⌜ r ≡ outcomeOf a ⌝ }
@@ -39,26 +52,8 @@ pub fn outcome_of(a: Answer) -> Outcome
             deliveries: 0,
             deaf: 0,
         },
-        Answer::Founded => Outcome {
-            refusal: 0,
-            outcome: 1,
-            frames: frames::SHORTEST_TOKEN as u16,
-            deliveries: 0,
-            deaf: 0,
-        },
-        Answer::Posted => Outcome {
-            refusal: 0,
-            outcome: 2,
-            frames: 0,
-            deliveries: 0,
-            deaf: 0,
-        },
-        Answer::Resent(n) => Outcome {
-            refusal: 0,
-            outcome: 7,
-            frames: n as u16,
-            deliveries: 0,
-            deaf: 0,
-        },
+        Answer::Founded => happened(1, frames::SHORTEST_TOKEN as u16, 0, 0),
+        Answer::Posted => happened(2, 0, 0, 0),
+        Answer::Resent(n) => happened(7, n as u16, 0, 0),
     }
 }

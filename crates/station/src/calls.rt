@@ -2,10 +2,9 @@
 // back. A refusal's reply has the record as it was and no bytes, so it alters nothing.
 ghost use mathlib.Core.Path.{_≡_};
 ghost use lib.ListN.{length};
-ghost use lib.Dec.{leb};
-ghost use Rattle.frames.specs.Layout.{shortestToken};
-ghost use Rattle.station.specs.Reply.{over};
-ghost use Rattle.station.specs.Found.{founded};
+ghost use Rattle.station.specs.Answer.{outcomeOf};
+ghost use Rattle.station.specs.Reply.{followedBy};
+ghost use Rattle.station.specs.Found.{foundedOn};
 ghost use Rattle.station.specs.Post.{posted};
 ghost use Rattle.station.specs.Resend.{resent};
 use crate::answer::Answer;
@@ -20,9 +19,14 @@ use record::Record;
 // the own id.
 pub fn found(rec: &mut Record, ids: &[u16], own: u16, ring: RingNumber, token: &mut [u8]) -> Answer
     ensures { λ r. ⌜
-        (now (rec .exit) ≡ (founded (now (rec .entry)) (leb shortestToken (length (now (token .entry)))) (now (ids .entry)) own (ring .0)) .rec)
-        × (r ≡ (founded (now (rec .entry)) (leb shortestToken (length (now (token .entry)))) (now (ids .entry)) own (ring .0)) .answer)
-        × (now (token .exit) ≡ over ((founded (now (rec .entry)) (leb shortestToken (length (now (token .entry)))) (now (ids .entry)) own (ring .0)) .frames) (now (token .entry))) ⌝ }
+        (now (rec .exit)
+            ≡ (foundedOn (now (rec .entry)) (length (now (token .entry))) (now (ids .entry)) own (ring .0)) .rec)
+        × (r ≡ (foundedOn (now (rec .entry)) (length (now (token .entry))) (now (ids .entry)) own (ring .0)) .answer)
+        × (now (token .exit) ≡ followedBy
+            ((foundedOn (now (rec .entry)) (length (now (token .entry))) (now (ids .entry)) own (ring .0)) .frames)
+            (now (token .entry)))
+        × (outcomeOf r ≡ outcomeOf
+            ((foundedOn (now (rec .entry)) (length (now (token .entry))) (now (ids .entry)) own (ring .0)) .answer)) ⌝ }
 {
     let done = founding::found_step(*rec, ids, own, ring, token);
     *rec = done::rec_of(done);
@@ -33,7 +37,8 @@ pub fn found(rec: &mut Record, ids: &[u16], own: u16, ring: RingNumber, token: &
 pub fn post(rec: &mut Record, service: u16, content: &[u8]) -> Answer
     ensures { λ r. ⌜
         (now (rec .exit) ≡ (posted (now (rec .entry)) service (now (content .entry))) .rec)
-        × (r ≡ (posted (now (rec .entry)) service (now (content .entry))) .answer) ⌝ }
+        × (r ≡ (posted (now (rec .entry)) service (now (content .entry))) .answer)
+        × (outcomeOf r ≡ outcomeOf ((posted (now (rec .entry)) service (now (content .entry))) .answer)) ⌝ }
 {
     let done = posting::post_step(*rec, service, content);
     *rec = done::rec_of(done);
@@ -45,7 +50,10 @@ pub fn resend(rec: &mut Record, frames: &mut [u8]) -> Answer
     ensures { λ r. ⌜
         (now (rec .exit) ≡ (resent (now (rec .entry)) (length (now (frames .entry)))) .rec)
         × (r ≡ (resent (now (rec .entry)) (length (now (frames .entry)))) .answer)
-        × (now (frames .exit) ≡ over ((resent (now (rec .entry)) (length (now (frames .entry)))) .frames) (now (frames .entry))) ⌝ }
+        × (now (frames .exit) ≡ followedBy
+            ((resent (now (rec .entry)) (length (now (frames .entry)))) .frames)
+            (now (frames .entry)))
+        × (outcomeOf r ≡ outcomeOf ((resent (now (rec .entry)) (length (now (frames .entry)))) .answer)) ⌝ }
 {
     let done = resending::resend_step(*rec, frames);
     *rec = done::rec_of(done);

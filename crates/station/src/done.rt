@@ -10,18 +10,24 @@ pub struct Done {
     pub rec: Record,
 }
 
+// A call on a lent record takes the two parts out of its step's result, each by one of the next two:
+// the record goes back to where it was lent, the answer to the caller.
+
+// Ruled out: the record as it was before the call; a fresh one.
 pub fn rec_of(done: Done) -> Record
     ensures { λ r. ⌜ r ≡ done .rec ⌝ }
 {
     done.rec
 }
 
+// Ruled out: one answer for every call; a refusal of what was taken.
 pub fn answer_of(done: Done) -> Answer
     ensures { λ r. ⌜ r ≡ done .answer ⌝ }
 {
     done.answer
 }
 
+// Ruled out: a record changed by a refusal; another question's refusal.
 pub fn refuse(rec: Record, why: Refusal) -> Done
     ensures { λ r. ⌜ r ≡ doneOf (refused rec why) ⌝ }
 {

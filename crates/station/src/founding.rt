@@ -3,12 +3,11 @@ ghost use mathlib.Core.Path.{_≡_};
 ghost use mathlib.Core.Bool.{true};
 ghost use Prim.Native.Nat.{_≤_};
 ghost use lib.ListN.{length};
-ghost use lib.Dec.{leb};
 ghost use Rattle.frames.specs.Layout.{shortestToken};
 ghost use Rattle.record.specs.Members.{foundable};
 ghost use Rattle.frames.specs.Token.{tokenBytes};
-ghost use Rattle.station.specs.Reply.{doneOf, over};
-ghost use Rattle.station.specs.Found.{firstToken, founded};
+ghost use Rattle.station.specs.Reply.{doneOf, followedBy};
+ghost use Rattle.station.specs.Found.{firstToken, foundedOn};
 use crate::answer::Answer;
 use crate::done;
 use crate::done::Done;
@@ -44,7 +43,8 @@ fn first_token(ids: &[u16], ring: RingNumber) -> Token
 // The ring's first token to the front.
 fn put_first_token(ids: &[u16], own: u16, ring: RingNumber, token: &mut [u8])
     requires { ⌜ (foundable (now ids) own (ring .0) ≡ true) × (shortestToken ≤ length (now token)) ⌝ }
-    ensures { λ _. ⌜ now (token .exit) ≡ over (tokenBytes (firstToken (now (ids .entry)) (ring .0))) (now (token .entry)) ⌝ }
+    ensures { λ _. ⌜
+        now (token .exit) ≡ followedBy (tokenBytes (firstToken (now (ids .entry)) (ring .0))) (now (token .entry)) ⌝ }
 {
     let t = first_token(ids, ring);
     frames::write_token(t, token);
@@ -54,8 +54,10 @@ fn put_first_token(ids: &[u16], own: u16, ring: RingNumber, token: &mut [u8])
 // token addressed to the own id.
 pub fn found_step(rec: Record, ids: &[u16], own: u16, ring: RingNumber, token: &mut [u8]) -> Done
     ensures { λ r. ⌜
-        (r ≡ doneOf (founded rec (leb shortestToken (length (now (token .entry)))) (now (ids .entry)) own (ring .0)))
-        × (now (token .exit) ≡ over ((founded rec (leb shortestToken (length (now (token .entry)))) (now (ids .entry)) own (ring .0)) .frames) (now (token .entry))) ⌝ }
+        (r ≡ doneOf (foundedOn rec (length (now (token .entry))) (now (ids .entry)) own (ring .0)))
+        × (now (token .exit) ≡ followedBy
+            ((foundedOn rec (length (now (token .entry))) (now (ids .entry)) own (ring .0)) .frames)
+            (now (token .entry))) ⌝ }
 {
     if token.len() < frames::SHORTEST_TOKEN {
         return done::refuse(rec, Refusal::NoRoom);

@@ -7,6 +7,7 @@ mod founding;
 mod posting;
 mod refusal;
 mod resending;
+mod room;
 
 pub use answer::Answer;
 pub use answer::Outcome;

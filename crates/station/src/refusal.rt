@@ -25,7 +25,7 @@ pub enum Refusal {
     NoLeave,
 }
 
-// The question's number in document 01. Ruled out: one number for all; 7 and 8 swapped.
+// The question's number in document 01. Ruled out: one number for all; 7 and 8 changed over.
 pub fn refusal_number(r: Refusal) -> u16
     ensures { λ n. ⌜ n ≡ refusalNumber r ⌝ }
 {

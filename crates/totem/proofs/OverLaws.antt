@@ -19,9 +19,10 @@ use Rattle.record.specs.Whole.{whole}
 use Rattle.record.specs.Lent.{noRecord, lent}
 use Rattle.record.proofs.LentLaws.{other-length}
 use Rattle.record.specs.declared.Record.{Record}
+use Rattle.station.specs.Refusal.{refusalNumber}
 use Rattle.station.specs.Answer.{outcomeOf}
-use Rattle.station.specs.Reply.{Reply, refused, asks, over, doneOf}
-use Rattle.station.specs.Found.{founded}
+use Rattle.station.specs.Reply.{Reply, refused, asks, followedBy, doneOf}
+use Rattle.station.specs.Found.{founded, foundedOn}
 use Rattle.station.specs.Post.{posted}
 use Rattle.station.specs.Resend.{resent}
 use Rattle.station.specs.declared.refusal.Refusal.{Refusal}
@@ -30,7 +31,8 @@ use Rattle.station.specs.declared.answer.Answer.{Answer}
 use Rattle.station.specs.declared.answer.Answer.the-variants.{Refused}
 use Rattle.station.specs.declared.answer.Outcome.{Outcome}
 use Rattle.station.specs.declared.done.Done.{Done}
-use Rattle.totem.specs.Over.{idsIn, isTaken, stationAfter, foundBy, foundOver, postOver, resendOver}
+use Rattle.station.proofs.RefusalLaws.{some-number}
+use Rattle.totem.specs.Over.{idsIn, isTaken, stationAfter, foundOver, postOver, resendOver}
 
 -- ---- the record put back
 
@@ -54,9 +56,9 @@ put-refused done a b s e t not-taken =
 
 asks-taken : (r : Record) (question : Bool) (why : Refusal) (rest : Reply) → isTaken (asks r question why rest .answer) ≡ true → question ≡ true
 asks-taken r true why rest e = refl
-asks-taken r false why rest e = e
+asks-taken r false why rest e = absurd (some-number why (eqb-true (refusalNumber why) 0 e))
 
-whole-long : (s : List ℕ) → whole (lent s) ≡ true → length s ≡ recordSize
+pub whole-long : (s : List ℕ) → whole (lent s) ≡ true → length s ≡ recordSize
 whole-long s w = eqb-true (length s) recordSize (part w (λ (f : eqb (length s) recordSize ≡ false). other-length s (eqb-false (length s) recordSize f)))
 
 pub post-long : (r : Record) (s : List ℕ) (service : ℕ) (content : List ℕ) (done : Done)
@@ -102,7 +104,7 @@ over-roomless : (s members : List ℕ) (own ring room : ℕ) → length s < reco
 unfolding foundOver founded
 over-roomless s members own ring room h = rw (lt-leb recordSize (length s) h)
 
-over-room : (s members : List ℕ) (own ring room : ℕ) → recordSize ≤ length s → foundOver s members own ring room ≡ foundBy (idsIn members) own ring room
+over-room : (s members : List ℕ) (own ring room : ℕ) → recordSize ≤ length s → foundOver s members own ring room ≡ foundedOn noRecord room (idsIn members) own ring
 unfolding foundOver
 over-room s members own ring room h = rw (le-leb recordSize (length s) h)
 
@@ -130,29 +132,29 @@ post-over s service content r done a o s′ l d g e f =
 
 pub resend-over : (s out : List ℕ) (r : Record) (done : Done) (a : Answer) (o : Outcome) (out′ : List ℕ)
     → r ≡ lent s
-    → (done ≡ doneOf (resent r (length out))) × (out′ ≡ over (resent r (length out) .frames) out)
+    → (done ≡ doneOf (resent r (length out))) × (out′ ≡ followedBy (resent r (length out) .frames) out)
     → a ≡ done .answer
     → o ≡ outcomeOf a
-    → (o ≡ outcomeOf (resendOver s (length out) .answer)) × (out′ ≡ over (resendOver s (length out) .frames) out)
+    → (o ≡ outcomeOf (resendOver s (length out) .answer)) × (out′ ≡ followedBy (resendOver s (length out) .frames) out)
 unfolding resendOver
 resend-over s out r done a o out′ l d e f =
-    let d′ : (done ≡ doneOf (resent (lent s) (length out))) × (out′ ≡ over (resent (lent s) (length out) .frames) out) = rw l at d in
+    let d′ : (done ≡ doneOf (resent (lent s) (length out))) × (out′ ≡ followedBy (resent (lent s) (length out) .frames) out) = rw l at d in
     (said (resent (lent s) (length out)) done a o (d′ .0) e f, d′ .1)
 
 module _ (s members out : List ℕ) (own ring : ℕ) where
   pub found-over-roomless : (o : Outcome)
       → length s < recordSize
       → o ≡ outcomeOf (Refused NoRoom)
-      → (o ≡ outcomeOf (foundOver s members own ring (length out) .answer)) × (s ≡ stationAfter (doneOf (foundOver s members own ring (length out))) s) × (out ≡ over (foundOver s members own ring (length out) .frames) out)
+      → (o ≡ outcomeOf (foundOver s members own ring (length out) .answer)) × (s ≡ stationAfter (doneOf (foundOver s members own ring (length out))) s) × (out ≡ followedBy (foundOver s members own ring (length out) .frames) out)
   found-over-roomless o h f = rw (over-roomless s members own ring (length out) h) (f, refl, refl)
 
   pub found-over : (done : Done) (a : Answer) (o : Outcome) (s′ out′ : List ℕ)
       → recordSize ≤ length s
-      → (done ≡ doneOf (foundBy (idsIn members) own ring (length out))) × (out′ ≡ over (foundBy (idsIn members) own ring (length out) .frames) out)
+      → (done ≡ doneOf (foundedOn noRecord (length out) (idsIn members) own ring)) × (out′ ≡ followedBy (foundedOn noRecord (length out) (idsIn members) own ring .frames) out)
       → s′ ≡ stationAfter done s
       → a ≡ done .answer
       → o ≡ outcomeOf a
-      → (o ≡ outcomeOf (foundOver s members own ring (length out) .answer)) × (s′ ≡ stationAfter (doneOf (foundOver s members own ring (length out))) s) × (out′ ≡ over (foundOver s members own ring (length out) .frames) out)
+      → (o ≡ outcomeOf (foundOver s members own ring (length out) .answer)) × (s′ ≡ stationAfter (doneOf (foundOver s members own ring (length out))) s) × (out′ ≡ followedBy (foundOver s members own ring (length out) .frames) out)
   found-over done a o s′ out′ h d g e f =
-      let reply = foundBy (idsIn members) own ring (length out) in
+      let reply = foundedOn noRecord (length out) (idsIn members) own ring in
       rw (over-room s members own ring (length out) h) (said reply done a o (d .0) e f, left reply done a o (d .0) e f s s′ g, d .1)

@@ -6,9 +6,11 @@ ghost use Prim.Native.Nat.{_≤_};
 ghost use mathlib.Core.List.{[]};
 ghost use lib.ListN.{length};
 ghost use Rattle.record.specs.Layout.{recordSize};
+ghost use Rattle.record.specs.Lent.{noRecord};
 ghost use Rattle.station.specs.Answer.{outcomeOf};
-ghost use Rattle.station.specs.Reply.{doneOf, over};
-ghost use Rattle.totem.specs.Over.{idsIn, isTaken, stationAfter, foundBy, foundOver, postOver, resendOver};
+ghost use Rattle.station.specs.Reply.{doneOf, followedBy};
+ghost use Rattle.station.specs.Found.{foundedOn};
+ghost use Rattle.totem.specs.Over.{idsIn, isTaken, stationAfter, foundOver, postOver, resendOver};
 use frames::RingNumber;
 use station::Answer;
 use station::Done;
@@ -18,12 +20,7 @@ use station::Refusal;
 fn is_taken(a: Answer) -> bool
     ensures { λ r. ⌜ r ≡ isTaken a ⌝ }
 {
-    match a {
-        Answer::Refused(_) => false,
-        Answer::Founded => true,
-        Answer::Posted => true,
-        Answer::Resent(_) => true,
-    }
+    station::outcome_of(a).refusal == 0
 }
 
 // The record back into the bytes that were lent, unless the call was refused.
@@ -36,26 +33,25 @@ fn put_back(bytes: &mut [u8], done: Done)
     }
 }
 
-// A list of members that has none, or more than a ring can have.
-fn found_by_none(own: u16, ring: u32, token: &mut [u8]) -> Done
+// Founding by bytes that are no list of members (an odd number, or too many ids): refused as an empty
+// list is.
+fn found_by_none(own: u16, ring: RingNumber, token: &mut [u8]) -> Done
     ensures { λ r. ⌜
-        (r ≡ doneOf (foundBy [] own ring (length (now (token .entry)))))
-        × (now (token .exit) ≡ over (foundBy [] own ring (length (now (token .entry))) .frames) (now (token .entry))) ⌝ }
+        (r ≡ doneOf (foundedOn noRecord (length (now (token .entry))) [] own (ring .0)))
+        × (now (token .exit) ≡ followedBy
+            (foundedOn noRecord (length (now (token .entry))) [] own (ring .0) .frames)
+            (now (token .entry))) ⌝ }
 {
     let ids = [0u16; 1];
-    station::found_step(
-        record::no_record(),
-        &ids[0..0],
-        own,
-        RingNumber(ring),
-        token,
-    )
+    station::found_step(record::no_record(), &ids[0..0], own, ring, token)
 }
 
-fn found_by(members: &[u8], own: u16, ring: u32, token: &mut [u8]) -> Done
+fn found_by(members: &[u8], own: u16, ring: RingNumber, token: &mut [u8]) -> Done
     ensures { λ r. ⌜
-        (r ≡ doneOf (foundBy (idsIn (now (members .entry))) own ring (length (now (token .entry)))))
-        × (now (token .exit) ≡ over (foundBy (idsIn (now (members .entry))) own ring (length (now (token .entry))) .frames) (now (token .entry))) ⌝ }
+        (r ≡ doneOf (foundedOn noRecord (length (now (token .entry))) (idsIn (now (members .entry))) own (ring .0)))
+        × (now (token .exit) ≡ followedBy
+            (foundedOn noRecord (length (now (token .entry))) (idsIn (now (members .entry))) own (ring .0) .frames)
+            (now (token .entry))) ⌝ }
 {
     let mut ids = [0u16; record::MOST_MEMBERS];
     let n = members.len() / 2;
@@ -66,13 +62,7 @@ fn found_by(members: &[u8], own: u16, ring: u32, token: &mut [u8]) -> Done
         return found_by_none(own, ring, token);
     }
     words::get_u16s(members, 0, n, &mut ids);
-    station::found_step(
-        record::no_record(),
-        &ids[0..n],
-        own,
-        RingNumber(ring),
-        token,
-    )
+    station::found_step(record::no_record(), &ids[0..n], own, ring, token)
 }
 
 // Founding. Ruled out: a record written with a refusal; an odd list read as a shorter one.
@@ -85,14 +75,19 @@ pub extern "C" fn totem_found(
     token: &mut [u8],
 ) -> Outcome
     ensures { λ r. ⌜
-        (r ≡ outcomeOf (foundOver (now (bytes .entry)) (now (members .entry)) own ring (length (now (token .entry))) .answer))
-        × (now (bytes .exit) ≡ stationAfter (doneOf (foundOver (now (bytes .entry)) (now (members .entry)) own ring (length (now (token .entry))))) (now (bytes .entry)))
-        × (now (token .exit) ≡ over (foundOver (now (bytes .entry)) (now (members .entry)) own ring (length (now (token .entry))) .frames) (now (token .entry))) ⌝ }
+        (r ≡ outcomeOf
+            (foundOver (now (bytes .entry)) (now (members .entry)) own ring (length (now (token .entry))) .answer))
+        × (now (bytes .exit) ≡ stationAfter
+            (doneOf (foundOver (now (bytes .entry)) (now (members .entry)) own ring (length (now (token .entry)))))
+            (now (bytes .entry)))
+        × (now (token .exit) ≡ followedBy
+            (foundOver (now (bytes .entry)) (now (members .entry)) own ring (length (now (token .entry))) .frames)
+            (now (token .entry))) ⌝ }
 {
     if bytes.len() < record::RECORD_SIZE {
         return station::outcome_of(Answer::Refused(Refusal::NoRoom));
     }
-    let done = found_by(members, own, ring, token);
+    let done = found_by(members, own, RingNumber(ring), token);
     put_back(bytes, done);
     station::outcome_of(station::answer_of(done))
 }
@@ -102,7 +97,9 @@ pub extern "C" fn totem_found(
 pub extern "C" fn totem_post(bytes: &mut [u8], service: u16, content: &[u8]) -> Outcome
     ensures { λ r. ⌜
         (r ≡ outcomeOf (postOver (now (bytes .entry)) service (now (content .entry)) .answer))
-        × (now (bytes .exit) ≡ stationAfter (doneOf (postOver (now (bytes .entry)) service (now (content .entry)))) (now (bytes .entry))) ⌝ }
+        × (now (bytes .exit) ≡ stationAfter
+            (doneOf (postOver (now (bytes .entry)) service (now (content .entry))))
+            (now (bytes .entry))) ⌝ }
 {
     let done = station::post_step(record::record_in(bytes), service, content);
     put_back(bytes, done);
@@ -114,7 +111,9 @@ pub extern "C" fn totem_post(bytes: &mut [u8], service: u16, content: &[u8]) -> 
 pub extern "C" fn totem_resend(bytes: &[u8], frames: &mut [u8]) -> Outcome
     ensures { λ r. ⌜
         (r ≡ outcomeOf (resendOver (now (bytes .entry)) (length (now (frames .entry))) .answer))
-        × (now (frames .exit) ≡ over (resendOver (now (bytes .entry)) (length (now (frames .entry))) .frames) (now (frames .entry))) ⌝ }
+        × (now (frames .exit) ≡ followedBy
+            (resendOver (now (bytes .entry)) (length (now (frames .entry))) .frames)
+            (now (frames .entry))) ⌝ }
 {
     let done = station::resend_step(record::record_in(bytes), frames);
     station::outcome_of(station::answer_of(done))

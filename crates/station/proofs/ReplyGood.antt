@@ -27,7 +27,7 @@ use Rattle.station.specs.Reply.{Reply, refused, asks, mostFrames}
 use Rattle.station.specs.Found.{firstToken, founded}
 use Rattle.station.specs.Post.{withPost, posted}
 use Rattle.station.specs.Resend.{resent}
-use Rattle.station.specs.Kept.{Counted, KeepsWhole, Good, FoundedGood, PostedGood, ResentGood, FoundedWhole, PostedOne}
+use Rattle.station.specs.EveryReply.{Counted, KeepsWhole, Good, FoundedGood, PostedGood, ResentGood, FoundedWhole, PostedOne}
 use Rattle.station.specs.declared.refusal.Refusal.{Refusal}
 use Rattle.station.specs.declared.refusal.Refusal.the-variants.{NoRoom, NotWhole, MemberCount, BadIds, NotAmong, BadRing, LongContent, OtherService, PostsFull, NoLeave}
 use Rattle.station.specs.declared.answer.Answer.{Answer}
@@ -84,7 +84,7 @@ no-refusal : (a : Answer) (why : Refusal) → 0 < outcomeOf a .outcome → a ≡
 no-refusal a why some e = let none : outcomeOf a .outcome ≡ 0 = ap (λ (b : Answer). outcomeOf b .outcome) e in omega arith
 
 taken-good : (r : Record) (reply : Reply) → 0 < outcomeOf (reply .answer) .outcome → Counted reply → KeepsWhole r reply → Good r reply
-taken-good r reply some counted kept = ((λ why e. absurd (no-refusal (reply .answer) why some e)), counted, kept)
+taken-good r reply some counted keeps = ((λ why e. absurd (no-refusal (reply .answer) why some e)), counted, keeps)
 
 -- ---- founding
 
@@ -111,7 +111,7 @@ module _ (r : Record) (service : ℕ) (content : List ℕ) (w : whole r ≡ true
   unfolding whole inRange
   posts-good = part w (λ (f : postsInRange (r .posts) ≡ false). simp (f, and-false))
 
-  with-post-whole : service ≤ mostService → whole (withPost r service content) ≡ true
+  pub with-post-whole : service ≤ mostService → whole (withPost r service content) ≡ true
   unfolding whole inRange unusedZero
   with-post-whole known =
       let unused = part w (λ (f : postsUnusedZero (r .posts) ≡ false). simp (f, and-false)) in

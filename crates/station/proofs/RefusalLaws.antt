@@ -1,0 +1,19 @@
+-- No refusal's number is 0.
+use Prim.Native.Nat.{ℕ}
+use mathlib.Core.Path.{_≡_}
+use native.Mathlib.Omega.{arith}
+use Rattle.station.specs.Refusal.{refusalNumber}
+use Rattle.station.specs.declared.refusal.Refusal.{Refusal}
+use Rattle.station.specs.declared.refusal.Refusal.the-variants.{NoRoom, NotWhole, MemberCount, BadIds, NotAmong, BadRing, LongContent, OtherService, PostsFull, NoLeave}
+
+pub some-number : (why : Refusal) → refusalNumber why ≡ 0 → ⊥
+some-number NoRoom e = omega arith
+some-number NotWhole e = omega arith
+some-number MemberCount e = omega arith
+some-number BadIds e = omega arith
+some-number NotAmong e = omega arith
+some-number BadRing e = omega arith
+some-number LongContent e = omega arith
+some-number OtherService e = omega arith
+some-number PostsFull e = omega arith
+some-number NoLeave e = omega arith

@@ -1,0 +1,9 @@
+use borrow.Author.Needs.{needs}
+use Rattle.totem.proofs.is_taken.Statement.{statement}
+use Rattle.totem.proofs.is_taken.Tie as tie
+
+returns : tie.Need-returns
+returns c = cc
+
+pub is-taken-spec : {M : Type 1} → statement M
+is-taken-spec = tie.close (tie.spec (λ c κs. search needs) returns)
