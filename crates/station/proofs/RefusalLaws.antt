@@ -1,5 +1,4 @@
 -- No refusal's number is 0.
-use Prim.Native.Nat.{ℕ}
 use mathlib.Core.Path.{_≡_}
 use native.Mathlib.Omega.{arith}
 use Rattle.station.specs.Refusal.{refusalNumber}

@@ -20,13 +20,13 @@ use record::Record;
 pub fn found(rec: &mut Record, ids: &[u16], own: u16, ring: RingNumber, token: &mut [u8]) -> Answer
     ensures { λ r. ⌜
         (now (rec .exit)
-            ≡ (foundedOn (now (rec .entry)) (length (now (token .entry))) (now (ids .entry)) own (ring .0)) .rec)
+        ≡ (foundedOn (now (rec .entry)) (length (now (token .entry))) (now (ids .entry)) own (ring .0)) .rec)
         × (r ≡ (foundedOn (now (rec .entry)) (length (now (token .entry))) (now (ids .entry)) own (ring .0)) .answer)
         × (now (token .exit) ≡ followedBy
-            ((foundedOn (now (rec .entry)) (length (now (token .entry))) (now (ids .entry)) own (ring .0)) .frames)
-            (now (token .entry)))
+        ((foundedOn (now (rec .entry)) (length (now (token .entry))) (now (ids .entry)) own (ring .0)) .frames)
+        (now (token .entry)))
         × (outcomeOf r ≡ outcomeOf
-            ((foundedOn (now (rec .entry)) (length (now (token .entry))) (now (ids .entry)) own (ring .0)) .answer)) ⌝ }
+        ((foundedOn (now (rec .entry)) (length (now (token .entry))) (now (ids .entry)) own (ring .0)) .answer)) ⌝ }
 {
     let done = founding::found_step(*rec, ids, own, ring, token);
     *rec = done::rec_of(done);
@@ -51,8 +51,8 @@ pub fn resend(rec: &mut Record, frames: &mut [u8]) -> Answer
         (now (rec .exit) ≡ (resent (now (rec .entry)) (length (now (frames .entry)))) .rec)
         × (r ≡ (resent (now (rec .entry)) (length (now (frames .entry)))) .answer)
         × (now (frames .exit) ≡ followedBy
-            ((resent (now (rec .entry)) (length (now (frames .entry)))) .frames)
-            (now (frames .entry)))
+        ((resent (now (rec .entry)) (length (now (frames .entry)))) .frames)
+        (now (frames .entry)))
         × (outcomeOf r ≡ outcomeOf ((resent (now (rec .entry)) (length (now (frames .entry)))) .answer)) ⌝ }
 {
     let done = resending::resend_step(*rec, frames);

@@ -56,8 +56,8 @@ pub fn found_step(rec: Record, ids: &[u16], own: u16, ring: RingNumber, token: &
     ensures { λ r. ⌜
         (r ≡ doneOf (foundedOn rec (length (now (token .entry))) (now (ids .entry)) own (ring .0)))
         × (now (token .exit) ≡ followedBy
-            ((foundedOn rec (length (now (token .entry))) (now (ids .entry)) own (ring .0)) .frames)
-            (now (token .entry))) ⌝ }
+        ((foundedOn rec (length (now (token .entry))) (now (ids .entry)) own (ring .0)) .frames)
+        (now (token .entry))) ⌝ }
 {
     if token.len() < frames::SHORTEST_TOKEN {
         return done::refuse(rec, Refusal::NoRoom);

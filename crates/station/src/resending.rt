@@ -28,8 +28,8 @@ pub fn resend_step(rec: Record, frames: &mut [u8]) -> Done
     ensures { λ r. ⌜
         (r ≡ doneOf (resent rec (length (now (frames .entry)))))
         × (now (frames .exit) ≡ followedBy
-            ((resent rec (length (now (frames .entry)))) .frames)
-            (now (frames .entry))) ⌝ }
+        ((resent rec (length (now (frames .entry)))) .frames)
+        (now (frames .entry))) ⌝ }
 {
     if frames.len() < room::MOST_FRAMES {
         return done::refuse(rec, Refusal::NoRoom);

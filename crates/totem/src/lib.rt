@@ -39,8 +39,8 @@ fn found_by_none(own: u16, ring: RingNumber, token: &mut [u8]) -> Done
     ensures { λ r. ⌜
         (r ≡ doneOf (foundedOn noRecord (length (now (token .entry))) [] own (ring .0)))
         × (now (token .exit) ≡ followedBy
-            (foundedOn noRecord (length (now (token .entry))) [] own (ring .0) .frames)
-            (now (token .entry))) ⌝ }
+        (foundedOn noRecord (length (now (token .entry))) [] own (ring .0) .frames)
+        (now (token .entry))) ⌝ }
 {
     let ids = [0u16; 1];
     station::found_step(record::no_record(), &ids[0..0], own, ring, token)
@@ -50,8 +50,8 @@ fn found_by(members: &[u8], own: u16, ring: RingNumber, token: &mut [u8]) -> Don
     ensures { λ r. ⌜
         (r ≡ doneOf (foundedOn noRecord (length (now (token .entry))) (idsIn (now (members .entry))) own (ring .0)))
         × (now (token .exit) ≡ followedBy
-            (foundedOn noRecord (length (now (token .entry))) (idsIn (now (members .entry))) own (ring .0) .frames)
-            (now (token .entry))) ⌝ }
+        (foundedOn noRecord (length (now (token .entry))) (idsIn (now (members .entry))) own (ring .0) .frames)
+        (now (token .entry))) ⌝ }
 {
     let mut ids = [0u16; record::MOST_MEMBERS];
     let n = members.len() / 2;
@@ -76,13 +76,13 @@ pub extern "C" fn totem_found(
 ) -> Outcome
     ensures { λ r. ⌜
         (r ≡ outcomeOf
-            (foundOver (now (bytes .entry)) (now (members .entry)) own ring (length (now (token .entry))) .answer))
+        (foundOver (now (bytes .entry)) (now (members .entry)) own ring (length (now (token .entry))) .answer))
         × (now (bytes .exit) ≡ stationAfter
-            (doneOf (foundOver (now (bytes .entry)) (now (members .entry)) own ring (length (now (token .entry)))))
-            (now (bytes .entry)))
+        (doneOf (foundOver (now (bytes .entry)) (now (members .entry)) own ring (length (now (token .entry)))))
+        (now (bytes .entry)))
         × (now (token .exit) ≡ followedBy
-            (foundOver (now (bytes .entry)) (now (members .entry)) own ring (length (now (token .entry))) .frames)
-            (now (token .entry))) ⌝ }
+        (foundOver (now (bytes .entry)) (now (members .entry)) own ring (length (now (token .entry))) .frames)
+        (now (token .entry))) ⌝ }
 {
     if bytes.len() < record::RECORD_SIZE {
         return station::outcome_of(Answer::Refused(Refusal::NoRoom));
@@ -98,8 +98,8 @@ pub extern "C" fn totem_post(bytes: &mut [u8], service: u16, content: &[u8]) -> 
     ensures { λ r. ⌜
         (r ≡ outcomeOf (postOver (now (bytes .entry)) service (now (content .entry)) .answer))
         × (now (bytes .exit) ≡ stationAfter
-            (doneOf (postOver (now (bytes .entry)) service (now (content .entry))))
-            (now (bytes .entry))) ⌝ }
+        (doneOf (postOver (now (bytes .entry)) service (now (content .entry))))
+        (now (bytes .entry))) ⌝ }
 {
     let done = station::post_step(record::record_in(bytes), service, content);
     put_back(bytes, done);
@@ -112,8 +112,8 @@ pub extern "C" fn totem_resend(bytes: &[u8], frames: &mut [u8]) -> Outcome
     ensures { λ r. ⌜
         (r ≡ outcomeOf (resendOver (now (bytes .entry)) (length (now (frames .entry))) .answer))
         × (now (frames .exit) ≡ followedBy
-            (resendOver (now (bytes .entry)) (length (now (frames .entry))) .frames)
-            (now (frames .entry))) ⌝ }
+        (resendOver (now (bytes .entry)) (length (now (frames .entry))) .frames)
+        (now (frames .entry))) ⌝ }
 {
     let done = station::resend_step(record::record_in(bytes), frames);
     station::outcome_of(station::answer_of(done))
