@@ -12,7 +12,8 @@ use lib.Seq.{sets, getD-set-same, getD-set-other}
 use Rattle.words.specs.Scan.{allZero}
 use Rattle.words.proofs.ScanLaws.{within-most}
 use Rattle.frames.specs.Layout.{mostContent}
-use Rattle.record.specs.Whole.{padding, contentsPadded}
+use Rattle.record.specs.Contents.{padding}
+use Rattle.record.specs.Whole.{contentsPadded}
 use Rattle.record.proofs.CountLaws.{each-passes, all-pass}
 use Rattle.record.proofs.ListLaws.{part-after, place-apart, Most, most-later, all-within}
 

@@ -15,7 +15,8 @@ use Rattle.frames.specs.Layout.{mostService, mostContent}
 use Rattle.frames.proofs.Facts.{part}
 use Rattle.record.specs.Size.{mostPosts, postContents}
 use Rattle.record.specs.Posts.{queued, taken}
-use Rattle.record.specs.Whole.{padding, postsInRange, contentsPadded, postsUnusedZero}
+use Rattle.record.specs.Contents.{padding}
+use Rattle.record.specs.Whole.{postsInRange, contentsPadded, postsUnusedZero}
 use Rattle.record.specs.declared.posts.Posts.{Posts}
 use Rattle.record.proofs.RangeFacts.{posts-range}
 use Rattle.record.proofs.ListLaws.{moved-number, moved-part, Most, most-set, most-drop, most-take, most-append, most-zeros, all-within}

@@ -9,7 +9,7 @@ use lib.ListN.{length, getD, take, drop, drop-of-length-le}
 use lib.Seq.{drop-drop}
 use Rattle.words.specs.Scan.{every, allZero}
 use Rattle.frames.specs.Layout.{mostContent}
-use Rattle.record.specs.Whole.{padding}
+use Rattle.record.specs.Contents.{padding}
 use Rattle.record.proofs.ListLaws.{drop-take}
 
 -- nothing stands past the end

@@ -3,11 +3,12 @@ use Prim.Native.Nat.{ℕ, zero, suc, _+_, _*_, _-_, _%_}
 use mathlib.Core.Bool.{Bool, not, _&&_, cond}
 use mathlib.Core.List.{List}
 use mathlib.Core.Option.{Option, none, some}
-use lib.ListN.{length, getD, set, take, drop, replicate}
+use lib.ListN.{length, getD, set, replicate}
 use lib.Dec.{leb, ltb, eqb}
 use lib.Seq.{sets}
 use Rattle.frames.specs.Layout.{mostContent}
 use Rattle.frames.specs.declared.number.MessageNumber.{MessageNumber}
+use Rattle.record.specs.Contents.{contentIn}
 use Rattle.record.specs.Size.{mostHeld}
 use Rattle.record.specs.declared.log.Held.{Held}
 use Rattle.record.specs.declared.log.Log.{Log}
@@ -31,7 +32,7 @@ entryAt h place =
     record {
       sender = getD (h .senders) place 0;
       service = getD (h .services) place 0;
-      content = take (getD (h .lengths) place 0) (drop (mostContent * place) (h .contents));
+      content = contentIn (h .lengths) (h .contents) place;
     }
 
 -- numbered above the safe mark and at most safe mark + 32

@@ -1,6 +1,7 @@
 pub mod Size
 pub mod Layout
 pub mod Count
+pub mod Contents
 pub mod Held
 pub mod Posts
 pub mod Turn

@@ -1,9 +1,10 @@
 -- The posts that wait, oldest first. [document 01, The station record; the paper's queue of new messages]
 use Prim.Native.Nat.{ℕ, zero, suc, _+_, _*_, _-_}
 use mathlib.Core.List.{List, [], _∷_, _++_}
-use lib.ListN.{length, getD, set, take, drop, replicate}
+use lib.ListN.{length, getD, set, drop, replicate}
 use lib.Seq.{sets}
 use Rattle.frames.specs.Layout.{mostContent}
+use Rattle.record.specs.Contents.{contentIn}
 use Rattle.record.specs.declared.posts.Posts.{Posts}
 
 pub record Post : Type 0 where
@@ -15,7 +16,7 @@ abbrev pub postAt : Posts → ℕ → Post
 postAt p place =
     record {
       service = getD (p .services) place 0;
-      content = take (getD (p .lengths) place 0) (drop (mostContent * place) (p .contents));
+      content = contentIn (p .lengths) (p .contents) place;
     }
 
 -- n posts from a place on

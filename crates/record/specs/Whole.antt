@@ -1,15 +1,16 @@
 -- When a record is whole: one definition for each clause of document 01's paragraph, in its order. [document 01, The station record]
 -- A list has any length, so the ranges ask for each array's own length too.
-use Prim.Native.Nat.{ℕ, suc, _+_, _*_, _-_}
+use Prim.Native.Nat.{ℕ, suc, _-_}
 use mathlib.Core.Bool.{Bool, not, _&&_, _||_}
 use mathlib.Core.List.{List}
-use lib.ListN.{length, getD, take, drop}
+use lib.ListN.{length, getD, drop}
 use lib.Dec.{leb, eqb}
 use Rattle.words.specs.Scan.{every, allWithin, allZero}
 use Rattle.frames.specs.Number.{mostNumber, mostId}
 use Rattle.frames.specs.Layout.{mostService, mostContent, longestToken}
 use Rattle.record.specs.Size.{mostMembers, mostHeld, mostPosts, mostBroadcasts, mostStall, heldContents, postContents}
 use Rattle.record.specs.Count.{everyFrom}
+use Rattle.record.specs.Contents.{padding}
 use Rattle.record.specs.Held.{placeOf, inUse, holds}
 use Rattle.record.specs.Turn.{hasLeave, remembered}
 use Rattle.record.specs.Members.{isMember, foundable}
@@ -100,10 +101,7 @@ nextNotHeld l = not (holds l (suc (l .level .0)))
 
 -- ---- a part not in use is zero
 
--- contents stand 64 bytes apart: the bytes past the length of the one at a place
-abbrev pub padding : List ℕ → List ℕ → ℕ → List ℕ
-padding lengths contents place = take (mostContent - getD lengths place 0) (drop (mostContent * place + getD lengths place 0) contents)
-
+-- the bytes past each content's length
 unfoldable pub contentsPadded : List ℕ → List ℕ → Bool
 contentsPadded lengths contents = everyFrom (λ place. allZero (padding lengths contents place)) 0 (length lengths)
 

@@ -1,12 +1,14 @@
 -- Document 01's trials of founding, posting and resending, and their edges: a table of tests and the number that each gives.
 -- proofs/Trials.antt has the one theorem that every row passes. [document 01, Trials]
-use Prim.Native.Nat.{ℕ, zero, suc}
+use Prim.Native.Nat.{ℕ, zero, suc, _-_}
 use mathlib.Core.Bool.{Bool, true, false, _&&_, cond}
 use mathlib.Core.List.{List, [], _∷_, _++_}
 use lib.ListN.{replicate}
 use lib.Dec.{eqb}
 use Rattle.record.specs.Layout.{recordSize}
-use Rattle.record.specs.Fresh.{fresh}
+use Rattle.frames.specs.Layout.{shortestToken, longestToken}
+use Rattle.frames.specs.Trials.{same, firstToken as firstBytes}
+use Rattle.record.specs.Fresh.{freshLog, freshPosts, fresh}
 use Rattle.record.specs.declared.Record.{Record}
 use Rattle.station.specs.Answer.{outcomeOf}
 use Rattle.station.specs.Reply.{Reply, mostFrames}
@@ -21,13 +23,6 @@ refusal reply = outcomeOf (reply .answer) .refusal
 
 abbrev pub outcome : Reply → ℕ
 outcome reply = outcomeOf (reply .answer) .outcome
-
--- two lists of bytes are alike
-unfoldable pub same : List ℕ → List ℕ → Bool
-same [] [] = true
-same [] (y ∷ ys) = false
-same (x ∷ xs) [] = false
-same (x ∷ xs) (y ∷ ys) = eqb x y && same xs ys
 
 -- ---- sample values: members 3, 7, 9, ring 4
 
@@ -48,9 +43,24 @@ unfoldable pub postedTimes : ℕ → Record → Record
 postedTimes zero r = r
 postedTimes (suc n) r = postedTimes n (posted r 0 (bytes 1) .rec)
 
--- the first token of ring 4 with ids 3 and 7
-abbrev pub firstBytes : List ℕ
-firstBytes = 28 ∷ 0 ∷ 2 ∷ 0 ∷ 4 ∷ 0 ∷ 0 ∷ 0 ∷ 3 ∷ 0 ∷ 3 ∷ 0 ∷ 1 ∷ 0 ∷ 0 ∷ 0 ∷ replicate 14 0
+-- a station that may resend a token: the ring's first
+abbrev pub remembering : Record
+remembering =
+    record {
+      own = 7;
+      log = freshLog (3 ∷ 7 ∷ []) 4;
+      turn =
+          record {
+            aru = record { 0 = 0 };
+            earlier = record { 0 = 0 };
+            number = record { 0 = 1 };
+            broadcast = 0;
+            stall = 0;
+            size = shortestToken;
+            token = firstBytes ++ replicate (longestToken - shortestToken) 0;
+          };
+      posts = freshPosts;
+    }
 
 -- ---- the table
 
@@ -106,6 +116,10 @@ abbrev pub resending : List Trial
 resending =
     -- a fresh record has no leave
     row (refusal (resent station 1470)) 19
+    -- with leave the token's bytes are written, and counted
+    ∷ row (outcome (resent remembering 1470)) 7
+    ∷ row (outcomeOf (resent remembering 1470 .answer) .frames) 30
+    ∷ row (cond (same (resent remembering 1470 .frames) firstBytes) 1 0) 1
     ∷ row (refusal (resent station 1469)) 1
     ∷ row (refusal (resent (fresh (7 ∷ []) 7 4) 1470)) 2
     ∷ []

@@ -4,7 +4,8 @@ use lib.ListN.{length}
 use borrow.Author.Needs.{needs}
 use borrow.Author.Tests.{not-true, not-false}
 use Rattle.words.specs.Scan.{allZero}
-use Rattle.record.specs.Whole.{padding, contentsPadded}
+use Rattle.record.specs.Contents.{padding}
+use Rattle.record.specs.Whole.{contentsPadded}
 use Rattle.record.proofs.CountLaws.{Counting, count-starts, count-stops, count-goes, count-ends}
 use Rattle.record.proofs.UnusedLaws.{padding-tested}
 use Rattle.record.proofs.unused.contents_padded.Statement.{statement}
