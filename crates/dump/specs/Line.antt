@@ -1,4 +1,4 @@
--- The line of one frame, in the paper's names: message ring=4 rep=3 sender_id=7 .., token ring=4 .., or no 12.
+-- The line of one frame, in the paper's names where it has one: message ring=4 rep=3 sender_id=7 .., token ring=4 .., or no 12.
 use Prim.Native.Nat.{ℕ}
 use mathlib.Core.List.{List, [], _∷_, _++_}
 use lib.ListN.{take}

@@ -1,5 +1,5 @@
-// The line of one frame, in the paper's names: a message, a token, or the number of the question
-// that refuses it.
+// The line of one frame, in the paper's names where it has one: a message, a token, or the number of
+// the question that refuses it.
 ghost use mathlib.Core.Path.{_≡_};
 ghost use Prim.Native.Nat.{_+_, _≤_};
 ghost use lib.ListN.{length, take};

@@ -13,7 +13,7 @@ use Rattle.words.specs.Run.{words, wordsBytes}
 use Rattle.words.proofs.WordLaws.{word-split, bytes-drop}
 use Rattle.words.proofs.RunLaws.{length-words, words-there}
 use Rattle.frames.specs.Layout.{lengthAt, lengthSize, kindAt, ringAt, representativeAt, headerSize, senderAt, messageNumberAt, configurationAt, serviceAt, contentAt, messageKind, messageSize, addresseeAt, tokenNumberAt, highestAt, aruAt, blockerAt, roundAt, countAt, requestsAt, mostRequests, tokenKind, tokenSize}
-use Rattle.frames.specs.Header.{headerOf, headerBytes}
+use Rattle.frames.specs.Header.{ownSize, headerOf, headerBytes}
 use Rattle.frames.specs.Message.{configuration, messageOf, contentOf, messageFollows, messageFixed, messageBytes}
 use Rattle.frames.specs.Token.{blockerOf, blockerId, requestCount, requestsOf, tokenOf, tokenFollows, tokenFixed, tokenBytes}
 use Rattle.frames.specs.Read.{refused, aMessage, aToken, lengthExact, messageReads, tokenReads, readMessage, readToken, byKind, readOf}
@@ -50,15 +50,28 @@ which IsToken = 2
 apart : (x y : Reading) → x ≡ y → which (x .answer) ≡ which (y .answer)
 apart x y e = ap (λ (r : Reading). which (r .answer)) e
 
-record Exact (s : List ℕ) : Type 0 where
-  long : headerSize ≤ length s
-  size : length s ≡ lengthSize + wordAt 2 s lengthAt
+pub message-not-token : (m : Message) (t : Token) → aMessage m ≡ aToken t → ⊥
+unfolding which
+message-not-token m t e = omega (arith, apart (aMessage m) (aToken t) e)
+
+pub unread-not-message : (why : Refusal) (m : Message) → refused why ≡ aMessage m → ⊥
+unfolding which
+unread-not-message why m e = omega (arith, apart (refused why) (aMessage m) e)
+
+pub unread-not-token : (why : Refusal) (t : Token) → refused why ≡ aToken t → ⊥
+unfolding which
+unread-not-token why t e = omega (arith, apart (refused why) (aToken t) e)
+
+-- as long as its length field says
+pub record Exact (s : List ℕ) : Type 0 where
+  pub long : headerSize ≤ length s
+  pub size : length s ≡ ownSize s
 
 exact-facts : (s : List ℕ) → lengthExact s ≡ true → Exact s
 exact-facts s e =
     record {
       long = leb-true headerSize (length s) (part e (λ (f : leb headerSize (length s) ≡ false). rw f));
-      size = eqb-true (length s) (lengthSize + wordAt 2 s lengthAt) (part e (λ (f : eqb (length s) (lengthSize + wordAt 2 s lengthAt) ≡ false). simp (f, and-false)));
+      size = eqb-true (length s) (ownSize s) (part e (λ (f : eqb (length s) (ownSize s) ≡ false). simp (f, and-false)));
     }
 
 -- the way in, for whatever is read but a refusal
@@ -90,21 +103,21 @@ header-there s size kind b long sized kinded =
 
 -- ---- a message
 
-record ReadsMessage (s : List ℕ) (m : Message) : Type 0 where
-  exact : Exact s
-  kind : wordAt 2 s kindAt ≡ messageKind
-  long : contentAt ≤ length s
-  configured : wordAt 4 s configurationAt ≡ configuration
-  follows : messageFollows (messageOf s) (contentOf s) ≡ true
-  values : messageOf s ≡ m
+pub record ReadsMessage (s : List ℕ) (m : Message) : Type 0 where
+  pub exact : Exact s
+  pub kind : wordAt 2 s kindAt ≡ messageKind
+  pub long : contentAt ≤ length s
+  pub configured : wordAt 4 s configurationAt ≡ configuration
+  pub follows : messageFollows (messageOf s) (contentOf s) ≡ true
+  pub values : messageOf s ≡ m
 
-message-read : (s : List ℕ) (m : Message) → readOf s ≡ aMessage m → ReadsMessage s m
-unfolding readMessage readToken which
+pub message-read : (s : List ℕ) (m : Message) → readOf s ≡ aMessage m → ReadsMessage s m
+unfolding readMessage readToken
 message-read s m e =
     let kind = wordAt 2 s kindAt in
-    let read : (why : Refusal) → refused why ≡ aMessage m → ⊥ = λ why f. omega (arith, apart _ _ f) in
+    let read : (why : Refusal) → refused why ≡ aMessage m → ⊥ = λ why. unread-not-message why m in
     let way = entered s (aMessage m) read e in
-    let no-token : readToken s ≡ aMessage m → ⊥ = cond-neither (tokenReads s) (aToken (tokenOf s)) (refused Malformed) (aMessage m) (λ f. omega (arith, apart _ _ f)) (read Malformed) in
+    let no-token : readToken s ≡ aMessage m → ⊥ = cond-neither (tokenReads s) (aToken (tokenOf s)) (refused Malformed) (aMessage m) (λ f. message-not-token m (tokenOf s) (sym f)) (read Malformed) in
     let no-other = cond-neither (eqb kind tokenKind) (readToken s) (refused OtherKind) (aMessage m) no-token (read OtherKind) in
     let kinded = cond-first (eqb kind messageKind) (readMessage s) (cond (eqb kind tokenKind) (readToken s) (refused OtherKind)) (aMessage m) (way .by-kind) no-other in
     let reads = cond-first (messageReads s) (aMessage (messageOf s)) (refused Malformed) (aMessage m) (kinded .1) (read Malformed) in
@@ -142,20 +155,20 @@ message-rewritten s m b e =
 
 -- ---- a token
 
-record ReadsToken (s : List ℕ) (t : Token) : Type 0 where
-  exact : Exact s
-  kind : wordAt 2 s kindAt ≡ tokenKind
-  size : length s ≡ tokenSize (requestCount s)
-  follows : tokenFollows (tokenOf s) ≡ true
-  values : tokenOf s ≡ t
+pub record ReadsToken (s : List ℕ) (t : Token) : Type 0 where
+  pub exact : Exact s
+  pub kind : wordAt 2 s kindAt ≡ tokenKind
+  pub size : length s ≡ tokenSize (requestCount s)
+  pub follows : tokenFollows (tokenOf s) ≡ true
+  pub values : tokenOf s ≡ t
 
-token-read : (s : List ℕ) (t : Token) → readOf s ≡ aToken t → ReadsToken s t
-unfolding readMessage readToken which
+pub token-read : (s : List ℕ) (t : Token) → readOf s ≡ aToken t → ReadsToken s t
+unfolding readMessage readToken
 token-read s t e =
     let kind = wordAt 2 s kindAt in
-    let read : (why : Refusal) → refused why ≡ aToken t → ⊥ = λ why f. omega (arith, apart _ _ f) in
+    let read : (why : Refusal) → refused why ≡ aToken t → ⊥ = λ why. unread-not-token why t in
     let way = entered s (aToken t) read e in
-    let no-message : readMessage s ≡ aToken t → ⊥ = cond-neither (messageReads s) (aMessage (messageOf s)) (refused Malformed) (aToken t) (λ f. omega (arith, apart _ _ f)) (read Malformed) in
+    let no-message : readMessage s ≡ aToken t → ⊥ = cond-neither (messageReads s) (aMessage (messageOf s)) (refused Malformed) (aToken t) (message-not-token (messageOf s) t) (read Malformed) in
     let other = cond-second (eqb kind messageKind) (readMessage s) (cond (eqb kind tokenKind) (readToken s) (refused OtherKind)) (aToken t) (way .by-kind) no-message in
     let kinded = cond-first (eqb kind tokenKind) (readToken s) (refused OtherKind) (aToken t) (other .1) (read OtherKind) in
     let reads = cond-first (tokenReads s) (aToken (tokenOf s)) (refused Malformed) (aToken t) (kinded .1) (read Malformed) in

@@ -78,6 +78,12 @@ each-passes test first (suc n) e (suc i) h =
     let s : first + suc i ≡ suc first + i = omega arith in
     rw s (each-passes test (suc first) n (part e (λ (f : everyFrom test (suc first) n ≡ false). simp (f, and-false))) i (omega arith))
 
+-- by the number itself
+pub run-passes : (test : ℕ → Bool) (low many : ℕ) → everyFrom test (suc low) many ≡ true → (n : ℕ) → low < n → n ≤ low + many → test n ≡ true
+run-passes test low many e n above below =
+    let at : suc low + (n - suc low) ≡ n = omega arith in
+    rw at at (each-passes test (suc low) many e (n - suc low) (omega arith))
+
 pub all-pass : (test : ℕ → Bool) (first n : ℕ) → ((i : ℕ) → i < n → test (first + i) ≡ true) → everyFrom test first n ≡ true
 unfolding everyFrom
 all-pass test first zero p = refl

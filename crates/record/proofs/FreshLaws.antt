@@ -47,7 +47,7 @@ placed-length : (ids : List ℕ) → length ids ≤ mostMembers → length (memb
 unfolding membersPlaced
 placed-length ids few = length-append ids (replicate (mostMembers - length ids) 0) ∙ rw length-replicate (omega arith)
 
-placed-front : (ids : List ℕ) → take (length ids) (membersPlaced ids) ≡ ids
+pub placed-front : (ids : List ℕ) → take (length ids) (membersPlaced ids) ≡ ids
 unfolding membersPlaced
 placed-front ids = take-append-seam ids (replicate (mostMembers - length ids) 0)
 

@@ -243,7 +243,7 @@ pub holds-is : (l : Log) (i : ℕ) → given (heldAt l i) ≡ holds l i
 unfolding heldAt
 holds-is l i = given-cond (holds l i) (entryAt (l .held) (placeOf i))
 
-given-or : (b : Bool) (e : Entry) (x : Option Entry) → given (cond b (some e) x) ≡ b || given x
+pub given-or : (b : Bool) (e : Entry) (x : Option Entry) → given (cond b (some e) x) ≡ b || given x
 given-or true e x = refl
 given-or false e x = refl
 

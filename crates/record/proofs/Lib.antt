@@ -11,6 +11,10 @@ pub mod HeldLaws
 pub mod PostLaws
 pub mod PaddedLaws
 pub mod PostsWhole
+pub mod HeldWhole
+pub mod LogWhole
+pub mod HeldFacts
+pub mod WholeFacts
 pub mod Sizes
 pub mod GetLaws
 pub mod PutLaws

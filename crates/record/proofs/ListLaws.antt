@@ -11,7 +11,7 @@ use native.Mathlib.Omega.{arith}
 use lib.ListN.{length, getD, set, take, drop, replicate, length-append, length-drop, length-replicate, List·getD-append}
 use lib.Dec.{leb·zero}
 use lib.Seq.{sets, sets-eq, take-at, drop-at, take-set-le, drop-set-lt, drop-set-add, length-take-le, getD-set-same, getD-set-other, getD-drop, drop-drop, drop-append-le, take-append-le, take-nil}
-use Rattle.words.specs.Scan.{every, allWithin}
+use Rattle.words.specs.Scan.{every, allWithin, allZero}
 use Rattle.frames.specs.Layout.{mostContent}
 
 -- ---- a part that the stores don't touch
@@ -134,3 +134,6 @@ pub all-within : (most : ℕ) (l : List ℕ) → Most most l → allWithin 0 mos
 unfolding every
 all-within most [] all = refl
 all-within most (x ∷ l) all = rw (leb·zero x, le-leb x most (all zero), all-within most l (λ i. all (suc i)))
+
+pub zeros-zero : (n k : ℕ) → allZero (drop k (replicate n 0)) ≡ true
+zeros-zero n k = all-within 0 (drop k (replicate n 0)) (most-drop 0 k (replicate n 0) (most-zeros 0 n))

@@ -13,7 +13,7 @@ use Rattle.frames.specs.Number.{mostId}
 use Rattle.frames.specs.Read.{readOf}
 use Rattle.frames.specs.declared.reader.Reading.{Reading}
 use Rattle.frames.proofs.Facts.{part}
-use Rattle.record.specs.Size.{mostMembers}
+use Rattle.record.specs.Size.{leastMembers, mostMembers}
 use Rattle.record.specs.Members.{isMember, representative, idsFollow, foundable}
 use Rattle.record.specs.Ring.{thisRing, tokenMembers, isToken, tokenPasses}
 use Rattle.record.specs.Whole.{leaveIsGood}
@@ -48,6 +48,7 @@ member-passes test (y ∷ ids) x m e =
     here-or-later false h later = later (rw h at m)
 
 pub record FoundableFacts (ids : List ℕ) (own : ℕ) : Type 0 where
+  pub some : leastMembers ≤ length ids
   pub few : length ids ≤ mostMembers
   pub known : allWithin 1 mostId ids ≡ true
   pub among : isMember ids own ≡ true
@@ -56,6 +57,7 @@ pub foundable-facts : (ids : List ℕ) (own ring : ℕ) → foundable ids own ri
 unfolding foundable idsFollow
 foundable-facts ids own ring e =
     record {
+      some = leb-true leastMembers (length ids) (part e (λ (f : leb leastMembers (length ids) ≡ false). rw f));
       few = leb-true (length ids) mostMembers (part e (λ (f : leb (length ids) mostMembers ≡ false). simp (f, and-false)));
       known = part e (λ (f : allWithin 1 mostId ids ≡ false). simp (f, and-false));
       among = part e (λ (f : isMember ids own ≡ false). simp (f, and-false));

@@ -1,4 +1,4 @@
--- The messages that a station holds. [document 01, The station record; the paper's received messages]
+-- The messages that a station holds. [document 01, The station record; the paper's receive_message_queue]
 use Prim.Native.Nat.{ℕ, zero, suc, _+_, _*_, _-_, _%_}
 use mathlib.Core.Bool.{Bool, not, _&&_, cond}
 use mathlib.Core.List.{List}

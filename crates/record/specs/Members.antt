@@ -11,7 +11,7 @@ use Rattle.record.specs.Size.{leastMembers, mostMembers}
 abbrev pub isMember : List ℕ → ℕ → Bool
 isMember ids id = not (lacks ids id)
 
--- the representative: the first in circulation order. The paper's rep
+-- the representative: the first in circulation order. Its id is part of the paper's ring_id
 abbrev pub representative : List ℕ → ℕ
 representative ids = getD ids 0 0
 

@@ -1,4 +1,4 @@
--- The posts that wait, oldest first. [document 01, The station record; the paper's queue of new messages]
+-- The posts that wait, oldest first. [document 01, The station record; the paper's new_message_queue]
 use Prim.Native.Nat.{ℕ, zero, suc, _+_, _*_, _-_}
 use mathlib.Core.List.{List, [], _∷_, _++_}
 use lib.ListN.{length, getD, set, drop, replicate}

@@ -8,7 +8,7 @@ pub struct Turn {
     pub earlier: MessageNumber,
     // The number of the token forwarded last. The paper's my_token_seq.
     pub number: TokenNumber,
-    // What it broadcast at its last visit.
+    // How many messages it broadcast at its last visit, repeats included.
     pub broadcast: u8,
     // The paper's my_aru_count.
     pub stall: u8,

@@ -7,8 +7,8 @@ use borrow.Author.Tests.{le-leb, leb-true}
 use native.Mathlib.Omega.{arith}
 use lib.ListN.{length}
 use lib.Dec.{leb}
-use Rattle.words.specs.Scan.{every}
-use Rattle.frames.specs.Number.{isId}
+use Rattle.words.specs.Scan.{every, allWithin}
+use Rattle.frames.specs.Number.{mostId, isId}
 use Rattle.frames.specs.Layout.{shortestToken}
 use Rattle.frames.specs.Header.{headerFollows}
 use Rattle.frames.specs.Token.{requestsFollow, tokenFollows, tokenBytes}
@@ -19,6 +19,7 @@ use Rattle.record.specs.Size.{leastMembers, mostMembers}
 use Rattle.record.specs.Members.{representative, membersCounted, idsFollow, ownAmong, ringInRange, foundable}
 use Rattle.record.specs.Fresh.{fresh}
 use Rattle.record.specs.declared.Record.{Record}
+use Rattle.record.proofs.MemberLaws.{foundable-facts}
 use Rattle.station.specs.Reply.{refused, followedBy}
 use Rattle.station.specs.Found.{firstToken, founded}
 use Rattle.station.specs.declared.refusal.Refusal.the-variants.{NoRoom, MemberCount, BadIds, NotAmong, BadRing}
@@ -58,20 +59,24 @@ pub foundable-when : (ids : List ℕ) (own ring : ℕ) → membersCounted ids �
 unfolding foundable
 foundable-when ids own ring counted follow among ranged = rw (counted, follow, among, ranged)
 
--- ---- the first token
+-- ---- the header of its frames, and the first token
 
-representative-id : (ids : List ℕ) → leastMembers ≤ length ids → idsFollow ids ≡ true → isId (representative ids) ≡ true
-unfolding idsFollow every
-representative-id [] some e = absurd (omega arith)
-representative-id (x ∷ ids) some e = part e (λ (f : isId x ≡ false). rw f)
+representative-in : (ids : List ℕ) → leastMembers ≤ length ids → allWithin 1 mostId ids ≡ true → isId (representative ids) ≡ true
+unfolding every
+representative-in [] some e = absurd (omega arith)
+representative-in (x ∷ ids) some e = part e (λ (f : isId x ≡ false). rw f)
 
-pub first-follows : (ids : List ℕ) (own ring : ℕ) → foundable ids own ring ≡ true → tokenFollows (firstToken ids ring) ≡ true
-unfolding foundable tokenFollows firstToken headerFollows requestsFollow every
-first-follows ids own ring e =
-    let least = leb-true leastMembers (length ids) (part e (λ (f : leb leastMembers (length ids) ≡ false). rw f)) in
-    let follow = part e (λ (f : idsFollow ids ≡ false). simp (f, and-false)) in
-    let ranged = part e (λ (f : ringInRange ring ≡ false). simp (f, and-false)) in
-    rw (ranged, representative-id ids least follow)
+module _ (ids : List ℕ) (own ring : ℕ) (e : foundable ids own ring ≡ true) where
+  representative-id : isId (representative ids) ≡ true
+  representative-id = let f = foundable-facts ids own ring e in representative-in ids (f .some) (f .known)
+
+  pub header-follows : headerFollows (record { ring = record { 0 = ring }; representative = representative ids }) ≡ true
+  unfolding foundable headerFollows
+  header-follows = rw (part e (λ (f : ringInRange ring ≡ false). simp (f, and-false)), representative-id)
+
+  pub first-follows : tokenFollows (firstToken ids ring) ≡ true
+  unfolding tokenFollows firstToken requestsFollow every
+  first-follows = rw (header-follows, representative-id)
 
 pub first-length : (ids : List ℕ) (ring : ℕ) → length (tokenBytes (firstToken ids ring)) ≡ shortestToken
 unfolding firstToken

@@ -1,3 +1,4 @@
+pub mod AcceptanceTrials
 pub mod Accessors
 pub mod RefusalLaws
 pub mod ReplyLaws
@@ -5,4 +6,21 @@ pub mod PostLaws
 pub mod ResendLaws
 pub mod FoundLaws
 pub mod ReplyGood
-pub mod Trials
+pub mod RingFacts
+pub mod LevelLaws
+pub mod NewsLaws
+pub mod EachLaws
+pub mod WithinLaws
+pub mod FrameLaws
+pub mod VisitFacts
+pub mod RequestLaws
+pub mod TokenLaws
+pub mod VisitReads
+pub mod ArrivedCases
+pub mod ArrivedFits
+pub mod DueLaws
+pub mod LogSteps
+pub mod MessageWhole
+pub mod NewsWhole
+pub mod VisitWhole
+pub mod ArrivedGood

@@ -1,7 +1,7 @@
 -- What holds of every reply, call by call.
 use Prim.Native.Nat.{ℕ, _≤_, _<_}
 use mathlib.Core.Path.{_≡_, refl, sym, ap}
-use mathlib.Core.Bool.{Bool, true, false, and-false}
+use mathlib.Core.Bool.{Bool, true}
 use mathlib.Core.List.{List, [], _∷_, _++_}
 use borrow.Author.Tests.{leb-true, ltb-true}
 use native.Mathlib.Omega.{arith}
@@ -10,18 +10,18 @@ use lib.Dec.{leb, ltb}
 use lib.Seq.{length-take-le}
 use Rattle.frames.specs.Layout.{mostService, mostContent}
 use Rattle.frames.specs.Token.{tokenBytes}
-use Rattle.frames.proofs.Facts.{part}
 use Rattle.record.specs.Size.{mostPosts}
 use Rattle.record.specs.Members.{membersCounted, idsFollow, ownAmong, ringInRange, foundable}
 use Rattle.record.specs.Posts.{waiting}
 use Rattle.record.specs.Fresh.{fresh}
 use Rattle.record.specs.Turn.{hasLeave, remembered}
-use Rattle.record.specs.Whole.{postsInRange, inRange, postsUnusedZero, unusedZero, whole}
+use Rattle.record.specs.Whole.{postsInRange, whole}
 use Rattle.record.specs.declared.Record.{Record}
-use Rattle.record.proofs.RangeFacts.{record-range, posts-range}
+use Rattle.record.proofs.RangeFacts.{posts-range}
 use Rattle.record.proofs.FreshLaws.{fresh-whole}
 use Rattle.record.proofs.PostLaws.{post-sizes, waiting-queued}
 use Rattle.record.proofs.PostsWhole.{queued-in-range, queued-unused-zero}
+use Rattle.record.proofs.WholeFacts.{whole-good, good-whole}
 use Rattle.station.specs.Answer.{outcomeOf}
 use Rattle.station.specs.Reply.{Reply, refused, asks, mostFrames}
 use Rattle.station.specs.Found.{firstToken, founded}
@@ -32,25 +32,25 @@ use Rattle.station.specs.declared.refusal.Refusal.{Refusal}
 use Rattle.station.specs.declared.refusal.Refusal.the-variants.{NoRoom, NotWhole, MemberCount, BadIds, NotAmong, BadRing, LongContent, OtherService, PostsFull, NoLeave}
 use Rattle.station.specs.declared.answer.Answer.{Answer}
 use Rattle.station.specs.declared.answer.Answer.the-variants.{Refused, Founded, Posted, Resent}
+use Rattle.station.proofs.ReplyLaws.{asked}
 use Rattle.station.proofs.FoundLaws.{foundable-when, first-length}
 
 -- ---- a property of replies: if every refusal has it, and the reply has it when each question is answered 'yes', a call's reply has it
 
 module _ (P : Reply → Type 0) (r : Record) (refuses : (why : Refusal) → P (refused r why)) where
-  asked : (question : Bool) (why : Refusal) (rest : Reply) → (question ≡ true → P rest) → P (asks r question why rest)
-  asked true why rest then = then refl
-  asked false why rest then = refuses why
+  ask : (question : Bool) (why : Refusal) (rest : Reply) → (question ≡ true → P rest) → P (asks r question why rest)
+  ask question why rest = asked P r question why rest (refuses why)
 
   pub founded-either : (room : Bool) (ids : List ℕ) (own ring : ℕ)
       → (foundable ids own ring ≡ true → P (record { answer = Founded; rec = fresh ids own ring; frames = tokenBytes (firstToken ids ring); deliveries = [] }))
       → P (founded r room ids own ring)
   unfolding founded
   founded-either room ids own ring taken =
-      asked room NoRoom _ (λ enough.
-      asked (membersCounted ids) MemberCount _ (λ counted.
-      asked (idsFollow ids) BadIds _ (λ follow.
-      asked (ownAmong ids own) NotAmong _ (λ among.
-      asked (ringInRange ring) BadRing _ (λ ranged.
+      ask room NoRoom _ (λ enough.
+      ask (membersCounted ids) MemberCount _ (λ counted.
+      ask (idsFollow ids) BadIds _ (λ follow.
+      ask (ownAmong ids own) NotAmong _ (λ among.
+      ask (ringInRange ring) BadRing _ (λ ranged.
       taken (foundable-when ids own ring counted follow among ranged))))))
 
   pub posted-either : (service : ℕ) (content : List ℕ)
@@ -59,10 +59,10 @@ module _ (P : Reply → Type 0) (r : Record) (refuses : (why : Refusal) → P (r
       → P (posted r service content)
   unfolding posted
   posted-either service content taken =
-      asked (whole r) NotWhole _ (λ w.
-      asked (leb (length content) mostContent) LongContent _ (λ short.
-      asked (leb service mostService) OtherService _ (λ known.
-      asked (ltb (r .posts .count) mostPosts) PostsFull _ (λ room.
+      ask (whole r) NotWhole _ (λ w.
+      ask (leb (length content) mostContent) LongContent _ (λ short.
+      ask (leb service mostService) OtherService _ (λ known.
+      ask (ltb (r .posts .count) mostPosts) PostsFull _ (λ room.
       taken w (leb-true _ _ short) (leb-true _ _ known) (ltb-true _ _ room)))))
 
   pub resent-either : (room : ℕ)
@@ -70,20 +70,20 @@ module _ (P : Reply → Type 0) (r : Record) (refuses : (why : Refusal) → P (r
       → P (resent r room)
   unfolding resent
   resent-either room taken =
-      asked (leb mostFrames room) NoRoom _ (λ enough.
-      asked (whole r) NotWhole _ (λ w.
-      asked (hasLeave (r .turn)) NoLeave _ (λ leave.
+      ask (leb mostFrames room) NoRoom _ (λ enough.
+      ask (whole r) NotWhole _ (λ w.
+      ask (hasLeave (r .turn)) NoLeave _ (λ leave.
       taken w)))
 
 -- ---- refusals are good; an answer with an outcome is no refusal
 
-refused-good : (r : Record) (why : Refusal) → Good r (refused r why)
+pub refused-good : (r : Record) (why : Refusal) → Good r (refused r why)
 refused-good r why = ((λ again e. ap (λ (a : Answer). record { answer = a; rec = r; frames = []; deliveries = [] }) e), (refl, refl), (λ w. w))
 
 no-refusal : (a : Answer) (why : Refusal) → 0 < outcomeOf a .outcome → a ≡ Refused why → ⊥
 no-refusal a why some e = let none : outcomeOf a .outcome ≡ 0 = ap (λ (b : Answer). outcomeOf b .outcome) e in omega arith
 
-taken-good : (r : Record) (reply : Reply) → 0 < outcomeOf (reply .answer) .outcome → Counted reply → KeepsWhole r reply → Good r reply
+pub taken-good : (r : Record) (reply : Reply) → 0 < outcomeOf (reply .answer) .outcome → Counted reply → KeepsWhole r reply → Good r reply
 taken-good r reply some counted keeps = ((λ why e. absurd (no-refusal (reply .answer) why some e)), counted, keeps)
 
 -- ---- founding
@@ -108,15 +108,19 @@ founded-whole r room ids own ring =
 
 module _ (r : Record) (service : ℕ) (content : List ℕ) (w : whole r ≡ true) (short : length content ≤ mostContent) (room : r .posts .count < mostPosts) where
   posts-good : postsInRange (r .posts) ≡ true
-  unfolding whole inRange
-  posts-good = part w (λ (f : postsInRange (r .posts) ≡ false). simp (f, and-false))
+  posts-good = whole-good r w .posts
 
   pub with-post-whole : service ≤ mostService → whole (withPost r service content) ≡ true
-  unfolding whole inRange unusedZero
   with-post-whole known =
-      let unused = part w (λ (f : postsUnusedZero (r .posts) ≡ false). simp (f, and-false)) in
-      rw (queued-in-range (r .posts) service content room short posts-good known, queued-unused-zero (r .posts) service content room short posts-good unused)
-      (rw (posts-good, unused) at w)
+      let g = whole-good r w in
+      good-whole (withPost r service content)
+      (record {
+        log = g .log;
+        turn = g .turn;
+        founded = g .founded;
+        posts = queued-in-range (r .posts) service content room short posts-good known;
+        posts-rest = queued-unused-zero (r .posts) service content room short posts-good (g .posts-rest);
+      })
 
   with-post-one : waiting (withPost r service content .posts) ≡ waiting (r .posts) ++ (record { service = service; content = content } ∷ [])
   with-post-one = waiting-queued (r .posts) service content (post-sizes (r .posts) (posts-range (r .posts) posts-good)) room short
@@ -138,10 +142,9 @@ posted-one r service content =
 -- ---- resending
 
 remembered-long : (r : Record) → whole r ≡ true → length (remembered (r .turn)) ≡ r .turn .size
-unfolding whole
 remembered-long r w =
-    let range = record-range r (part w (λ (f : inRange r ≡ false). rw f)) in
-    length-take-le (r .turn .size) (r .turn .token) (omega (arith, range .turn .token-long, range .turn .size))
+    let range = whole-good r w .turn .range in
+    length-take-le (r .turn .size) (r .turn .token) (omega (arith, range .token-long, range .size))
 
 pub resent-good : ResentGood
 resent-good r room =

@@ -10,12 +10,11 @@ use lib.ListN.{length, take}
 use lib.Seq.{sets, length-take-le}
 use Rattle.words.proofs.StoreLaws.{front-stored}
 use Rattle.frames.specs.Layout.{longestToken}
-use Rattle.frames.proofs.Facts.{part}
 use Rattle.record.specs.Turn.{remembered}
-use Rattle.record.specs.Whole.{inRange, whole}
+use Rattle.record.specs.Whole.{whole}
 use Rattle.record.specs.declared.Record.{Record}
 use Rattle.record.specs.declared.turn.Turn.{Turn}
-use Rattle.record.proofs.RangeFacts.{record-range}
+use Rattle.record.proofs.WholeFacts.{whole-good}
 use Rattle.station.specs.Reply.{refused, followedBy, mostFrames}
 use Rattle.station.specs.Resend.{resent}
 use Rattle.station.specs.declared.refusal.Refusal.the-variants.{NoRoom, NotWhole, NoLeave}
@@ -42,8 +41,7 @@ module _ (r : Record) (room : ℕ) where
 
 -- a whole record's token fits
 pub token-fits : (r : Record) → whole r ≡ true → r .turn .size ≤ longestToken
-unfolding whole
-token-fits r w = record-range r (part w (λ (f : inRange r ≡ false). rw f)) .turn .size
+token-fits r w = whole-good r w .turn .range .size
 
 -- the remembered token, as the code spells it, stored at the front
 pub remembered-stored : (t : Turn) (out out′ : List ℕ)

@@ -4,7 +4,7 @@ use Prim.Native.Nat.{ℕ}
 use Rattle.frames.specs.Layout.{shortestToken}
 use Rattle.station.specs.Refusal.{refusalNumber}
 use Rattle.station.specs.declared.answer.Answer.{Answer}
-use Rattle.station.specs.declared.answer.Answer.the-variants.{Refused, Founded, Posted, Resent}
+use Rattle.station.specs.declared.answer.Answer.the-variants.{Refused, Founded, Posted, Kept, Had, Ahead, Accepted, Resent}
 use Rattle.station.specs.declared.answer.Outcome.{Outcome}
 
 -- nothing is refused: what happened, the counts, and the id in the notice 'deaf'
@@ -15,4 +15,8 @@ abbrev pub outcomeOf : Answer → Outcome
 outcomeOf (Refused why) = record { refusal = refusalNumber why; outcome = 0; frames = 0; deliveries = 0; deaf = 0 }
 outcomeOf Founded = happened 1 shortestToken 0 0
 outcomeOf Posted = happened 2 0 0 0
+outcomeOf (Kept n) = happened 3 0 n 0
+outcomeOf (Had n) = happened 4 0 n 0
+outcomeOf (Ahead n) = happened 5 0 n 0
+outcomeOf (Accepted frames deliveries deaf) = happened 6 frames deliveries deaf
 outcomeOf (Resent n) = happened 7 n 0 0

@@ -15,7 +15,7 @@ use Rattle.station.specs.Resend.{resent}
 use Rattle.station.specs.declared.refusal.Refusal.{Refusal}
 use Rattle.station.specs.declared.answer.Answer.the-variants.{Refused, Founded, Posted}
 
--- a reply that refuses has the record as it was and no bytes
+-- a reply that refuses has the record as it was and no bytes, so `followedBy` leaves every lent byte
 abbrev pub LeavesAll : Record → Reply → Type 0
 LeavesAll r reply = (why : Refusal) → reply .answer ≡ Refused why → reply ≡ refused r why
 

@@ -4,5 +4,14 @@ pub mod Reply
 pub mod Found
 pub mod Post
 pub mod Resend
+pub mod Level
+pub mod Deliver
+pub mod Message
+pub mod Visit
+pub mod Arrive
+pub mod Within
 pub mod EveryReply
+pub mod EveryArrival
+pub mod Sample
+pub mod ArrivalTrials
 pub mod Trials

@@ -4,7 +4,7 @@ use mathlib.Core.Bool.{Bool, cond}
 use mathlib.Core.List.{List, [], _++_}
 use lib.ListN.{length, drop}
 use Rattle.frames.specs.Layout.{longestMessage, longestToken}
-use Rattle.record.specs.Size.{mostBroadcasts}
+use Rattle.record.specs.Size.{mostHeld, mostBroadcasts}
 use Rattle.record.specs.declared.Record.{Record}
 use Rattle.station.specs.declared.refusal.Refusal.{Refusal}
 use Rattle.station.specs.declared.answer.Answer.{Answer}
@@ -32,6 +32,10 @@ followedBy bytes out = bytes ++ drop (length bytes) out
 -- question 1's bound on the buffer for frames: what a visit broadcasts at most, and the token
 abbrev pub mostFrames : ℕ
 mostFrames = mostBroadcasts * longestMessage + longestToken
+
+-- and on the buffer for deliveries: all that is held
+abbrev pub mostDeliveries : ℕ
+mostDeliveries = mostHeld * longestMessage
 
 -- the answer and the record of a reply
 abbrev pub doneOf : Reply → Done

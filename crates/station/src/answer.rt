@@ -9,6 +9,16 @@ pub enum Answer {
     // The ring's first token is written out.
     Founded,
     Posted,
+    // A message arrived. It is kept, or was had, or is too far ahead; this many bytes are delivered.
+    Kept(u16),
+    Had(u16),
+    Ahead(u16),
+    // A token arrived and was accepted: the bytes written for the cable, the bytes delivered, and the id in the notice 'deaf', or 0.
+    Accepted {
+        frames: u16,
+        deliveries: u16,
+        deaf: u16,
+    },
     // The remembered token is written out, this many bytes.
     Resent(u8),
 }
@@ -18,7 +28,7 @@ pub enum Answer {
 pub struct Outcome {
     // The question that was answered 'no', or 0.
     pub refusal: u16,
-    // What happened: 0 with a refusal, else 1 founded, 2 posted, 7 resent.
+    // What happened: 0 with a refusal, else 1 founded, 2 posted, 3 kept, 4 had, 5 ahead, 6 accepted, 7 resent.
     pub outcome: u16,
     // Output counts, in bytes.
     pub frames: u16,
@@ -54,6 +64,14 @@ pub fn outcome_of(a: Answer) -> Outcome
         },
         Answer::Founded => happened(1, frames::SHORTEST_TOKEN as u16, 0, 0),
         Answer::Posted => happened(2, 0, 0, 0),
+        Answer::Kept(n) => happened(3, 0, n, 0),
+        Answer::Had(n) => happened(4, 0, n, 0),
+        Answer::Ahead(n) => happened(5, 0, n, 0),
+        Answer::Accepted {
+            frames,
+            deliveries,
+            deaf,
+        } => happened(6, frames, deliveries, deaf),
         Answer::Resent(n) => happened(7, n as u16, 0, 0),
     }
 }

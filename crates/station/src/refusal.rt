@@ -21,6 +21,24 @@ pub enum Refusal {
     OtherService,
     // 9: 16 posts wait.
     PostsFull,
+    // 10: the frame is shorter than its header, or its length isn't exact.
+    WrongLength,
+    // 11: the kind is neither 1 nor 2.
+    OtherKind,
+    // 12: the frame doesn't follow the layout.
+    Malformed,
+    // 13: another ring's number or representative.
+    OtherRing,
+    // 14: an id in it is no member's.
+    NotMember,
+    // 15: the token is addressed to another station.
+    OtherAddressee,
+    // 16: the token's number isn't above the last forwarded.
+    OldToken,
+    // 17: the token's number is the last that there is.
+    LastToken,
+    // 18: the token's highest is below the level, or below a number held here.
+    BelowHeld,
     // 19: there is no token that may be resent.
     NoLeave,
 }
@@ -39,6 +57,15 @@ pub fn refusal_number(r: Refusal) -> u16
         Refusal::LongContent => 7,
         Refusal::OtherService => 8,
         Refusal::PostsFull => 9,
+        Refusal::WrongLength => 10,
+        Refusal::OtherKind => 11,
+        Refusal::Malformed => 12,
+        Refusal::OtherRing => 13,
+        Refusal::NotMember => 14,
+        Refusal::OtherAddressee => 15,
+        Refusal::OldToken => 16,
+        Refusal::LastToken => 17,
+        Refusal::BelowHeld => 18,
         Refusal::NoLeave => 19,
     }
 }

@@ -1,13 +1,13 @@
 -- The calls over C do what the station's definitions say on the record in the lent bytes.
 use Prim.Native.Nat.{ℕ, _*_, _/_, _%_, _-_, _<_, _≤_}
 use mathlib.Core.Path.{_≡_, refl, sym, _∙_}
-use mathlib.Core.Bool.{Bool, true, false, and-false}
+use mathlib.Core.Bool.{Bool, true, false, _&&_, and-false}
 use mathlib.Core.List.{List, [], _++_}
 use borrow.Author.Tests.{le-leb, lt-leb, eq-eqb, ne-eqb, eqb-true, eqb-false}
 use native.Mathlib.Nat.{sub-zero}
 use native.Mathlib.Omega.{arith}
 use lib.ListN.{length, take, drop}
-use lib.Dec.{eqb}
+use lib.Dec.{leb, eqb}
 use lib.Seq.{take-at}
 use Rattle.words.specs.Run.{words}
 use Rattle.words.proofs.RunLaws.{length-words}
@@ -21,10 +21,11 @@ use Rattle.record.proofs.LentLaws.{other-length}
 use Rattle.record.specs.declared.Record.{Record}
 use Rattle.station.specs.Refusal.{refusalNumber}
 use Rattle.station.specs.Answer.{outcomeOf}
-use Rattle.station.specs.Reply.{Reply, refused, asks, followedBy, doneOf}
+use Rattle.station.specs.Reply.{Reply, refused, asks, followedBy, mostFrames, doneOf, mostDeliveries}
 use Rattle.station.specs.Found.{founded, foundedOn}
 use Rattle.station.specs.Post.{posted}
 use Rattle.station.specs.Resend.{resent}
+use Rattle.station.specs.Arrive.{arrived}
 use Rattle.station.specs.declared.refusal.Refusal.{Refusal}
 use Rattle.station.specs.declared.refusal.Refusal.the-variants.{NoRoom, NotWhole}
 use Rattle.station.specs.declared.answer.Answer.{Answer}
@@ -52,11 +53,21 @@ put-refused done a b s e t not-taken =
     let known : isTaken (done .answer) ≡ false = rw e at (sym t ∙ not-taken) in
     rw known
 
--- ---- a posting that is taken was made on a record's length
+-- ---- a posting or an arrival that is taken was made on a whole record, so on a record's length
 
 asks-taken : (r : Record) (question : Bool) (why : Refusal) (rest : Reply) → isTaken (asks r question why rest .answer) ≡ true → question ≡ true
 asks-taken r true why rest e = refl
 asks-taken r false why rest e = absurd (some-number why (eqb-true (refusalNumber why) 0 e))
+
+pub post-whole : (r : Record) (service : ℕ) (content : List ℕ) → isTaken (posted r service content .answer) ≡ true → whole r ≡ true
+unfolding posted
+post-whole r service content t = asks-taken r (whole r) NotWhole _ t
+
+pub arrive-whole : (r : Record) (frame : List ℕ) (frames deliveries : ℕ) → isTaken (arrived r frame frames deliveries .answer) ≡ true → whole r ≡ true
+unfolding arrived
+arrive-whole r frame frames deliveries t =
+    let room = asks-taken r (leb mostFrames frames && leb mostDeliveries deliveries) NoRoom _ t in
+    asks-taken r (whole r) NotWhole _ (rw room at t)
 
 pub whole-long : (s : List ℕ) → whole (lent s) ≡ true → length s ≡ recordSize
 whole-long s w = eqb-true (length s) recordSize (part w (λ (f : eqb (length s) recordSize ≡ false). other-length s (eqb-false (length s) recordSize f)))
@@ -66,9 +77,8 @@ pub post-long : (r : Record) (s : List ℕ) (service : ℕ) (content : List ℕ)
     → done ≡ doneOf (posted r service content)
     → isTaken (done .answer) ≡ true
     → recordSize ≤ length s
-unfolding posted
 post-long r s service content done e d t =
-    let w : whole r ≡ true = asks-taken r (whole r) NotWhole _ (rw d at t) in
+    let w = post-whole r service content (rw d at t) in
     omega (arith, whole-long s (rw e at w))
 
 -- ---- the list of members
@@ -104,7 +114,7 @@ over-roomless : (s members : List ℕ) (own ring room : ℕ) → length s < reco
 unfolding foundOver founded
 over-roomless s members own ring room h = rw (lt-leb recordSize (length s) h)
 
-over-room : (s members : List ℕ) (own ring room : ℕ) → recordSize ≤ length s → foundOver s members own ring room ≡ foundedOn noRecord room (idsIn members) own ring
+pub over-room : (s members : List ℕ) (own ring room : ℕ) → recordSize ≤ length s → foundOver s members own ring room ≡ foundedOn noRecord room (idsIn members) own ring
 unfolding foundOver
 over-room s members own ring room h = rw (le-leb recordSize (length s) h)
 

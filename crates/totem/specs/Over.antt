@@ -16,6 +16,7 @@ use Rattle.station.specs.Reply.{Reply, doneOf}
 use Rattle.station.specs.Found.{founded}
 use Rattle.station.specs.Post.{posted}
 use Rattle.station.specs.Resend.{resent}
+use Rattle.station.specs.Arrive.{arrived}
 use Rattle.station.specs.declared.done.Done.{Done}
 use Rattle.station.specs.declared.answer.Answer.{Answer}
 use Rattle.station.specs.declared.answer.Answer.the-variants.{Founded}
@@ -39,6 +40,9 @@ foundOver s members own ring room = founded noRecord (leb recordSize (length s) 
 unfoldable pub postOver : List ℕ → ℕ → List ℕ → Reply
 postOver s service content = posted (lent s) service content
 
+unfoldable pub arriveOver : List ℕ → List ℕ → ℕ → ℕ → Reply
+arriveOver s frame frames deliveries = arrived (lent s) frame frames deliveries
+
 unfoldable pub resendOver : List ℕ → ℕ → Reply
 resendOver s room = resent (lent s) room
 
@@ -48,6 +52,11 @@ resendOver s room = resent (lent s) room
 abbrev pub PostedThere : Type 0
 PostedThere = (s : List ℕ) (service : ℕ) (content : List ℕ)
     → lent (stationAfter (doneOf (postOver s service content)) s) ≡ postOver s service content .rec
+
+-- after an arrival
+abbrev pub ArrivedThere : Type 0
+ArrivedThere = (s frame : List ℕ) (frames deliveries : ℕ)
+    → lent (stationAfter (doneOf (arriveOver s frame frames deliveries)) s) ≡ arriveOver s frame frames deliveries .rec
 
 -- the same after a founding that was taken, where the bytes have a record's length
 abbrev pub FoundedThere : Type 0

@@ -1,0 +1,112 @@
+-- Every frame that a visit writes or hands out reads, and question 1's sizes always suffice.
+use Prim.Native.Nat.{_+_, _≤_}
+use mathlib.Core.Path.{_≡_, ap}
+use mathlib.Core.Bool.{true}
+use mathlib.Core.List.{[], _∷_, _++_, map, flatten}
+use native.Mathlib.Omega.{arith}
+use lib.ListN.{length, length-append}
+use Rattle.frames.specs.Token.{tokenBytes}
+use Rattle.frames.specs.Read.{readOf}
+use Rattle.frames.specs.declared.reader.Reading.{Reading}
+use Rattle.frames.proofs.Rewritten.{Exact, token-read}
+use Rattle.record.specs.Held.{holds}
+use Rattle.record.specs.Ring.{ids}
+use Rattle.station.specs.Reply.{mostFrames, mostDeliveries}
+use Rattle.station.specs.Deliver.{frameOf, joined}
+use Rattle.station.specs.Visit.{Visit, log, own, nextMember, requests, repeats, newCount, news, numbersAfter, highest′, logNow, safe′, broadcasts, token′, written, accepted}
+use Rattle.station.specs.Within.{framesIn}
+use Rattle.station.specs.EveryArrival.{Each, Acceptable, HeldReads, VisitReads, AcceptedReads}
+use Rattle.station.proofs.EachLaws.{Between, each-map, each-append, those-pass, after-between, after-length}
+use Rattle.station.proofs.RingFacts.{ring-header}
+use Rattle.station.proofs.VisitFacts.{facts, few-broadcasts, now-new, now-good, now-ring}
+use Rattle.station.proofs.FrameLaws.{Writable, numbers-read, reads-exact, frames-short, joined-join, handed-reads, handed-fits}
+use Rattle.station.proofs.WithinLaws.{frames-within}
+use Rattle.station.proofs.TokenLaws.{token-reads, token-passes, token-short}
+
+-- ---- a visit
+
+module _ (v : Visit) (a : Acceptable v) where
+  before-writable : Writable (log v)
+  before-writable = record { log = facts v a .log; header = ring-header (v .rec) (facts v a) }
+
+  now-writable : Writable (logNow v)
+  now-writable = record { log = now-good v a; header = rw (now-ring v a) (ring-header (v .rec) (facts v a)) }
+
+  repeats-held : Each (λ n. holds (log v) n ≡ true) (repeats v)
+  unfolding repeats
+  repeats-held = those-pass (holds (log v)) (requests v)
+
+  news-held : Each (λ n. holds (logNow v) n ≡ true) (news v)
+  unfolding news highest′
+  news-held =
+      let top = v .token .highest .0 in
+      each-map (Between top (top + newCount v)) (λ n. holds (logNow v) n ≡ true) (numbersAfter top (newCount v)) (λ n b. now-new v a n (b .above) (b .upto)) (after-between top (newCount v))
+
+  repeats-read : Each (HeldReads (log v)) (repeats v)
+  repeats-read = numbers-read (log v) before-writable (repeats v) repeats-held
+
+  news-read : Each (HeldReads (logNow v)) (news v)
+  news-read = numbers-read (logNow v) now-writable (news v) news-held
+
+  written-exact : Each Exact (written v)
+  unfolding written
+  written-exact =
+      let old = map (frameOf (log v)) (repeats v) in
+      let new = map (frameOf (logNow v)) (news v) in
+      each-append Exact (old ++ new) (tokenBytes (token′ v) ∷ [])
+      (each-append Exact old new (reads-exact (log v) (repeats v) repeats-read) (reads-exact (logNow v) (news v) news-read))
+      (token-read (tokenBytes (token′ v)) (token′ v) (token-reads v a) .exact, tt)
+
+  frames-found : framesIn (accepted v .frames) ≡ written v
+  unfolding accepted
+  frames-found = frames-within (written v) written-exact
+
+  addressed : readOf (tokenBytes (token′ v)) .token .addressee ≡ nextMember (ids (log v)) (own v)
+  unfolding token′
+  addressed = ap (λ (x : Reading). x .token .addressee) (token-reads v a)
+
+  pub visit-reads : VisitReads v
+  unfolding accepted
+  visit-reads =
+      record {
+        delivered = handed-reads (logNow v) now-writable (safe′ v);
+        repeated = repeats-read;
+        sent = news-read;
+        forwarded = token-reads v a;
+        passes = token-passes v a;
+        next = addressed;
+        within = frames-found;
+      }
+
+  -- ---- how many bytes
+
+  news-length : length (news v) ≡ newCount v
+  unfolding news
+  news-length = after-length (v .token .highest .0) (newCount v)
+
+  pub written-fits : length (joined (written v)) ≤ mostFrames
+  unfolding written broadcasts flatten
+  written-fits =
+      let old = map (frameOf (log v)) (repeats v) in
+      let new = map (frameOf (logNow v)) (news v) in
+      let last = tokenBytes (token′ v) in
+      omega (
+        arith,
+        ap length (joined-join (old ++ new) (last ∷ [])),
+        length-append (joined (old ++ new)) (last ++ []),
+        ap length (joined-join old new),
+        length-append (joined old) (joined new),
+        length-append last [],
+        frames-short (log v) before-writable (repeats v) repeats-held,
+        frames-short (logNow v) now-writable (news v) news-held,
+        news-length,
+        token-short v a,
+        few-broadcasts v a,
+      )
+
+  pub accepted-fits : (length (accepted v .frames) ≤ mostFrames) × (length (accepted v .deliveries) ≤ mostDeliveries)
+  unfolding accepted
+  accepted-fits = (written-fits, handed-fits (logNow v) now-writable (safe′ v))
+
+pub accepted-reads : AcceptedReads
+accepted-reads = visit-reads
