@@ -1,0 +1,177 @@
+-- A ring and the ring as ordering sees it go on together: each call is seen as a call.
+use Prim.Native.Nat.{ℕ, _<_}
+use mathlib.Core.Path.{_≡_, sym, _∙_, ap, subst}
+use mathlib.Core.Bool.{Bool, true, false, cond}
+use mathlib.Core.List.{List, [], _∷_, map}
+use mathlib.Core.Logic.{_⊎_, inl, inr}
+use mathlib.Core.Option.{some}
+use lib.Dec.{eqb}
+use Rattle.frames.specs.declared.header.Header.{Header}
+use Rattle.record.specs.Ring.{current}
+use Rattle.station.specs.Deliver.{ringHeader}
+use Rattle.ordering.specs.Frame as seen
+use Rattle.ordering.specs.Lists.{Among}
+use Rattle.ordering.specs.Station.{Station}
+use Rattle.ordering.specs.Visit.{Allowed}
+use Rattle.ordering.specs.Log.{OnCable as OnCableSeen, Entry as EntrySeen}
+use Rattle.ordering.specs.Run as ordered
+use Rattle.ring.specs.Calls.{Call, post, arrival, resending, placeOf, replyTo}
+use Rattle.ring.specs.Log.{Entry, Written, place, writtenBy, writtenAt, writtenIn, OnCable, accepted}
+use Rattle.ring.specs.Run.{Ring, update, step, run}
+use Rattle.ring.specs.Demand.{Handed}
+use Rattle.ring.proofs.Going.{Possible, AcceptedIn}
+use Rattle.ring.specs.Newest.{lastOf}
+use Rattle.ring.proofs.View.{frameSeen, stationSeen, entrySeen, tokenIn}
+use Rattle.ring.proofs.Law.{Rewrites, HandedRewrites, Law, SeenAs, Sight, as-quiet, as-resending, as-hearing, as-visit}
+use Rattle.ring.proofs.Lists.{among-map, among-back, among-join, each-among, ⊎-map}
+use Rattle.ring.proofs.LogSeen.{writtenSeen, written-seen}
+
+abbrev pub entryOf : Ring → Call → Entry
+entryOf s c = record { call = c; reply = replyTo (s .at (placeOf c)) c }
+
+module _ (law : Law) (size : ℕ) (ring : Header) (first : List ℕ) (firstToken : seen.Token) (starts : frameSeen ring first ≡ seen.token firstToken) where
+  pub record Matches (s : Ring) (o : ordered.Ring) : Type 0 where
+    pub stations : (p : ℕ) → p < size → stationSeen (s .at p) ≡ o .at p
+    pub log : map (entrySeen ring) (s .log) ≡ o .log
+    pub rings : (p : ℕ) → p < size → ringHeader (current (s .at p)) ≡ ring
+    pub cable : (f : List ℕ) → OnCable first (s .log) f → Rewrites f
+
+  -- a call and what it is seen as
+  pub record Stepped (s : Ring) (o : ordered.Ring) (c : Call) : Type 0 where
+    pub call : ordered.Call
+    pub place : ordered.placeOf call ≡ placeOf c
+    pub possible : ordered.Possible size firstToken o call
+    pub matches : Matches (step s c) (ordered.step o call)
+    pub entry : entrySeen ring (entryOf s c) ≡ ordered.entry (o .at (placeOf c)) call
+
+  -- ---- on the cable
+
+  on-cable : (log : List Entry) (f : List ℕ) → OnCable first log f → OnCableSeen firstToken (map (entrySeen ring) log) (frameSeen ring f)
+  on-cable log f (inl e) = inl (ap (frameSeen ring) e ∙ starts)
+  on-cable log f (inr h) =
+      inr (h .0, subst (λ ws. Among (writtenSeen ring (writtenAt (h .0) f)) ws) (sym (written-seen ring log)) (among-map (writtenSeen ring) (writtenAt (h .0) f) (writtenIn log) (h .1)))
+
+  new-cable : (s : Ring) (o : ordered.Ring) (c : Call) (d : ordered.Call) → Matches s o → SeenAs (s .at (placeOf c)) c d → (f : List ℕ) → OnCable first (step s c .log) f → Rewrites f
+  unfolding step writtenIn
+  new-cable s o c d m k f (inl e) = m .cable f (inl e)
+  new-cable s o c d m k f (inr h) = by-end (among-join (writtenAt (h .0) f) (writtenIn (s .log)) (map (writtenAt (placeOf c)) (writtenBy (entryOf s c))) (h .1))
+    where
+      by-end : Among (writtenAt (h .0) f) (writtenIn (s .log)) ⊎ Among (writtenAt (h .0) f) (map (writtenAt (placeOf c)) (writtenBy (entryOf s c))) → Rewrites f
+      by-end (inl a) = m .cable f (inr (h .0, a))
+      by-end (inr a) =
+          let b = among-back (writtenAt (placeOf c)) (writtenAt (h .0) f) (writtenBy (entryOf s c)) a in
+          subst Rewrites (ap (λ (w : Written). w .frame) (b .2)) (each-among Rewrites (b .0) (writtenBy (entryOf s c)) (k .written) (b .1))
+
+  -- ---- a call
+
+  module _ (s : Ring) (o : ordered.Ring) (c : Call) (d : ordered.Call) (m : Matches s o) (here : placeOf c < size) (k : SeenAs (s .at (placeOf c)) c d) where
+    new-station : (q : ℕ) → q < size → stationSeen (step s c .at q) ≡ ordered.step o d .at q
+    unfolding step ordered.step update ordered.update
+    new-station q h =
+        subst
+        (λ p. stationSeen (cond (eqb q (placeOf c)) (replyTo (s .at (placeOf c)) c .rec) (s .at q)) ≡ cond (eqb q p) (ordered.after (o .at p) d) (o .at q))
+        (sym (k .at))
+        (by-place (eqb q (placeOf c)))
+      where
+        by-place : (b : Bool) → stationSeen (cond b (replyTo (s .at (placeOf c)) c .rec) (s .at q)) ≡ cond b (ordered.after (o .at (placeOf c)) d) (o .at q)
+        by-place true = k .station ∙ ap (λ (t : Station). ordered.after t d) (m .stations (placeOf c) here)
+        by-place false = m .stations q h
+
+    new-ring : (q : ℕ) → q < size → ringHeader (current (step s c .at q)) ≡ ring
+    unfolding step update
+    new-ring q h = by-place (eqb q (placeOf c))
+      where
+        by-place : (b : Bool) → ringHeader (current (cond b (replyTo (s .at (placeOf c)) c .rec) (s .at q))) ≡ ring
+        by-place true = k .ring ∙ m .rings (placeOf c) here
+        by-place false = m .rings q h
+
+    new-entry : entrySeen ring (entryOf s c) ≡ ordered.entry (o .at (placeOf c)) d
+    new-entry =
+        ap (λ (h : Header). entrySeen h (entryOf s c)) (sym (m .rings (placeOf c) here))
+        ∙ k .entry
+        ∙ ap (λ (t : Station). ordered.entry t d) (m .stations (placeOf c) here)
+
+    new-log : map (entrySeen ring) (step s c .log) ≡ ordered.step o d .log
+    unfolding step ordered.step
+    new-log =
+        ap (λ e. e ∷ map (entrySeen ring) (s .log)) (new-entry ∙ ap (λ p. ordered.entry (o .at p) d) (sym (k .at)))
+        ∙ ap (λ l. ordered.entry (o .at (ordered.placeOf d)) d ∷ l) (m .log)
+
+    stepped : ordered.Possible size firstToken o d → Stepped s o c
+    stepped possible =
+        record {
+          call = d;
+          place = k .at;
+          possible = possible;
+          matches = record { stations = new-station; log = new-log; rings = new-ring; cable = new-cable s o c d m k };
+          entry = new-entry;
+        }
+
+  handed-rewrites : (s : Ring) (o : ordered.Ring) (c : Call) → Matches s o → Handed first (s .log) c → HandedRewrites c
+  handed-rewrites s o (post place service content) m h = tt
+  handed-rewrites s o (arrival place frame frames deliveries) m h = m .cable frame h
+  handed-rewrites s o (resending place frames) m h = tt
+
+  -- the frame of an arrival, as it is seen, is on the cable
+  seen-on-cable : (s : Ring) (o : ordered.Ring) (c : Call) (frame a b : List ℕ) (f : seen.Frame)
+      → Matches s o
+      → placeOf c < size
+      → Handed first (s .log) c
+      → c ≡ arrival (placeOf c) frame a b
+      → frameSeen (ringHeader (current (s .at (placeOf c)))) frame ≡ f
+      → OnCableSeen firstToken (o .log) f
+  seen-on-cable s o c frame a b f m here h is e =
+      let handed : OnCable first (s .log) frame = subst (Handed first (s .log)) is h in
+      let same : frameSeen ring frame ≡ f = ap (λ (r : Header). frameSeen r frame) (sym (m .rings (placeOf c) here)) ∙ e in
+      subst (λ l. OnCableSeen firstToken l f) (m .log) (subst (OnCableSeen firstToken (map (entrySeen ring) (s .log))) same (on-cable (s .log) frame handed))
+
+  step-seen : (s : Ring) (o : ordered.Ring) (c : Call) → Matches s o → placeOf c < size → Handed first (s .log) c → Sight (s .at (placeOf c)) c → Stepped s o c
+  step-seen s o c m here h (as-quiet k) = stepped s o c (ordered.quiet (placeOf c)) m here k here
+  step-seen s o c m here h (as-resending k) = stepped s o c (ordered.resending (placeOf c)) m here k here
+  step-seen s o c m here h (as-hearing frame a b x is e k) =
+      stepped s o c (ordered.hearing (placeOf c) x) m here k (here, seen-on-cable s o c frame a b (seen.message x) m here h is e)
+  step-seen s o c m here h (as-visit frame a b t choice is e addressed newer allowed k) =
+      let same = m .stations (placeOf c) here in
+      stepped s o c (ordered.visiting (placeOf c) t choice) m here k (
+        here,
+        seen-on-cable s o c frame a b (seen.token t) m here h is e,
+        addressed ∙ ap (λ (x : Station). x .own) same,
+        subst (λ (x : Station). x .last < t .number) same newer,
+        subst (λ (x : Station). Allowed x t choice) same allowed,
+      )
+
+  pub step-law : (s : Ring) (o : ordered.Ring) (c : Call) → Matches s o → placeOf c < size → Handed first (s .log) c → Stepped s o c
+  step-law s o c m here h = step-seen s o c m here h (law (s .at (placeOf c)) c (handed-rewrites s o c m h))
+
+  -- ---- a list of calls
+
+  pub record Followed (s : Ring) (o : ordered.Ring) (cs : List Call) : Type 0 where
+    pub calls : List ordered.Call
+    pub possible : ordered.AllPossible size firstToken o calls
+    pub matches : Matches (run s cs) (ordered.run o calls)
+    pub accepts : (p : ℕ) → AcceptedIn p s cs → ordered.AcceptedIn p o calls
+
+  -- an accepted token is forwarded
+  forwarded : (e : Entry) → accepted e ≡ true → (t : seen.Token) × (entrySeen ring e .forwarded ≡ some t)
+  unfolding entrySeen
+  forwarded e h = (tokenIn (lastOf [] (writtenBy e)), rw h)
+
+  accepted-here : (s : Ring) (o : ordered.Ring) (c : Call) (k : Stepped s o c) (p : ℕ) → (placeOf c ≡ p) × (accepted (entryOf s c) ≡ true)
+      → (ordered.placeOf (k .call) ≡ p) × ((t : seen.Token) × (ordered.entry (o .at (ordered.placeOf (k .call))) (k .call) .forwarded ≡ some t))
+  accepted-here s o c k p h =
+      let f = forwarded (entryOf s c) (h .1) in
+      let e : entrySeen ring (entryOf s c) ≡ ordered.entry (o .at (ordered.placeOf (k .call))) (k .call) = k .entry ∙ ap (λ q. ordered.entry (o .at q) (k .call)) (sym (k .place)) in
+      (k .place ∙ h .0, (f .0, ap (λ (x : EntrySeen). x .forwarded) (sym e) ∙ f .1))
+
+  pub followed : (s : Ring) (o : ordered.Ring) (cs : List Call) → Matches s o → Possible size first s cs → Followed s o cs
+  unfolding run ordered.run
+  followed s o [] m h = record { calls = []; possible = tt; matches = m; accepts = λ p a. a }
+  followed s o (c ∷ cs) m h =
+      let k = step-law s o c m (h .0) (h .1) in
+      let rest = followed (step s c) (ordered.step o (k .call)) cs (k .matches) (h .2) in
+      record {
+        calls = k .call ∷ rest .calls;
+        possible = (k .possible, rest .possible);
+        matches = rest .matches;
+        accepts = λ p a. ⊎-map (accepted-here s o c k p) (rest .accepts p) a;
+      }

@@ -1,0 +1,98 @@
+-- A resending that is taken writes the remembered token and changes nothing else.
+use Prim.Native.Nat.{ℕ}
+use mathlib.Core.Path.{_≡_, refl}
+use mathlib.Core.Bool.{true, false, not, _||_, and-false}
+use mathlib.Core.List.{List, [], _∷_, map}
+use mathlib.Core.Logic.{_⊎_, inl, inr}
+use mathlib.Core.Option.{some}
+use lib.ListN.{length}
+use lib.Dec.{leb}
+use Rattle.frames.specs.Read.{readOf}
+use Rattle.frames.proofs.Facts.{part}
+use Rattle.record.specs.Turn.{hasLeave, remembered}
+use Rattle.record.specs.Ring.{current, ids, tokenPasses, isToken}
+use Rattle.record.specs.Whole.{leaveIsGood, whole}
+use Rattle.record.specs.declared.turn.Turn.{Turn}
+use Rattle.record.specs.declared.Record.{Record}
+use Rattle.station.specs.Reply.{Reply, mostFrames}
+use Rattle.station.specs.Resend.{resent}
+use Rattle.station.specs.Deliver.{ringHeader}
+use Rattle.station.specs.Within.{framesIn}
+use Rattle.station.specs.declared.refusal.Refusal.the-variants.{NoRoom, NotWhole, NoLeave}
+use Rattle.station.specs.declared.answer.Answer.the-variants.{Resent}
+use Rattle.ordering.specs.Run as ordered
+use Rattle.ring.specs.Calls.{Call, resending, placeOf}
+use Rattle.ring.specs.Log.{accepted}
+use Rattle.ring.proofs.View.{stationSeen, frameSeen, entrySeen, tokenIn, leaveOf}
+use Rattle.ring.proofs.Law.{Sight, as-quiet, as-resending}
+use Rattle.ring.proofs.SeenLaws.{SeenReply, seen-as, asked, no-frames}
+use Rattle.ring.proofs.QuietLaw.{Quiet, quiet-refused}
+use Rattle.ring.proofs.FrameLaws.{token-alone, frame-token, token-rewrites}
+
+-- ---- the remembered token of a whole record reads as a token
+
+passes-token : (ring : ℕ) (members frame : List ℕ) → tokenPasses ring members frame ≡ true → isToken (readOf frame .answer) ≡ true
+unfolding tokenPasses
+passes-token ring members frame e = part e (λ (f : isToken (readOf frame .answer) ≡ false). rw f)
+
+pub leave-reads : (r : Record) → whole r ≡ true → hasLeave (r .turn) ≡ true → isToken (readOf (remembered (r .turn)) .answer) ≡ true
+unfolding whole leaveIsGood
+leave-reads r w leave =
+    let good : (not (hasLeave (r .turn)) || tokenPasses (current r .ring .0) (ids (current r)) (remembered (r .turn))) ≡ true =
+    part w (λ (f : leaveIsGood (current r .ring .0) (ids (current r)) (r .turn) ≡ false). simp (f, and-false)) in
+    passes-token (current r .ring .0) (ids (current r)) (remembered (r .turn)) (rw leave at good)
+
+pub leave-is : (t : Turn) → hasLeave t ≡ true → leaveOf t ≡ some (tokenIn (remembered t))
+unfolding leaveOf
+leave-is t e = rw e
+
+-- ---- taken
+
+abbrev Taken : Record → Reply
+Taken r = record { answer = Resent (r .turn .size); rec = r; frames = remembered (r .turn); deliveries = [] }
+
+module _ (r : Record) (place : ℕ) (frames : List ℕ) (w : whole r ≡ true) (leave : hasLeave (r .turn) ≡ true) where
+  reads : isToken (readOf (remembered (r .turn)) .answer) ≡ true
+  reads = leave-reads r w leave
+
+  within : framesIn (remembered (r .turn)) ≡ remembered (r .turn) ∷ []
+  within = token-alone (remembered (r .turn)) reads
+
+  writes : map (frameSeen (ringHeader (current r))) (framesIn (remembered (r .turn))) ≡ ordered.leaveWrites (stationSeen r .leave)
+  unfolding stationSeen
+  writes = rw (within, leave-is (r .turn) leave, frame-token (ringHeader (current r)) (remembered (r .turn)) reads)
+
+  taken-entry : entrySeen (ringHeader (current r)) (record { call = resending place frames; reply = Taken r }) ≡ ordered.entry (stationSeen r) (ordered.resending place)
+  unfolding entrySeen accepted
+  taken-entry = rw (writes, no-frames)
+
+  seen-taken : SeenReply r (resending place frames) (Taken r) (ordered.resending place)
+  seen-taken =
+      record {
+        at = refl;
+        station = refl;
+        entry = taken-entry;
+        ring = refl;
+        written = rw within (token-rewrites (remembered (r .turn)) reads, tt);
+      }
+
+-- ---- either way
+
+abbrev Resends : Record → Call → Reply → Type 0
+Resends r c reply = Quiet r c reply ⊎ SeenReply r c reply (ordered.resending (placeOf c))
+
+resends : (r : Record) (place : ℕ) (frames : List ℕ) → Resends r (resending place frames) (resent r (length frames))
+unfolding resent
+resends r place frames =
+    let c = resending place frames in
+    asked (Resends r c) r (leb mostFrames (length frames)) NoRoom _ (inl (quiet-refused r c NoRoom)) (λ room.
+    asked (Resends r c) r (whole r) NotWhole _ (inl (quiet-refused r c NotWhole)) (λ w.
+    asked (Resends r c) r (hasLeave (r .turn)) NoLeave _ (inl (quiet-refused r c NoLeave)) (λ leave.
+    inr (seen-taken r place frames w leave))))
+
+pub sight-resend : (r : Record) (place : ℕ) (frames : List ℕ) → Sight r (resending place frames)
+sight-resend r place frames = go (resends r place frames)
+  where
+    go : Resends r (resending place frames) (resent r (length frames)) → Sight r (resending place frames)
+    go (inl q) = as-quiet (seen-as r (resending place frames) (resent r (length frames)) (ordered.quiet place) refl q)
+    go (inr s) = as-resending (seen-as r (resending place frames) (resent r (length frames)) (ordered.resending place) refl s)

@@ -1,0 +1,10 @@
+pub mod Calls
+pub mod Log
+pub mod Run
+pub mod Demand
+pub mod Listed
+pub mod AlwaysWhole
+pub mod Newest
+pub mod Promise
+pub mod OverBytes
+pub mod Script
