@@ -20,7 +20,7 @@ use Rattle.ring.specs.Calls.{Call, placeOf, replyTo}
 use Rattle.ring.specs.Log.{Entry, Written, writtenIn, isNumbered, reading, isSafe, Received, deliveryList, handedBy, deliveries, DeliveredAt}
 use Rattle.record.specs.declared.Record.{Record}
 use Rattle.ring.specs.Run.{Ring, records, start, firstFrame, ringOf, run}
-use Rattle.ring.specs.Demand.{Account, accountOf, CanAfter, OneOrder, SafeFirst, Delivered, WholeRun, AcceptedIn, RoundOver}
+use Rattle.ring.specs.Demand.{Account, accountOf, CanAfter, OneOrder, SafeFirst, Delivered, WholeRun, AcceptedIn, Round}
 use Rattle.ring.proofs.Going.{Possible, AcceptedIn as Accepts}
 use Rattle.ring.proofs.Law.{Rewrites, Law}
 use Rattle.ring.proofs.View.{messageIn, stationSeen, entrySeen}
@@ -215,7 +215,7 @@ module _ (law : Law) (members : List ℕ) (ring : ℕ)
         ∙ run-join-seen o₁ (f₂ .calls) (f₃ .calls)
 
     module _ (m : ℕ) (got : (p n : ℕ) → p < size → 1 ≤ n → n ≤ m → Received this (s₀ .log) p n)
-        (r₁ : RoundOver members ring account before one) (r₂ : RoundOver members ring account (before ++ one) two) (r₃ : RoundOver members ring account (before ++ (one ++ two)) three) where
+        (r₁ : Round members ring account before one) (r₂ : Round members ring account (before ++ one) two) (r₃ : Round members ring account (before ++ (one ++ two)) three) where
       got-seen : (p n : ℕ) → p < size → 1 ≤ n → n ≤ m → log.Received p n (o₀ .log)
       got-seen p n p< low high = subst (log.Received p n) (f₀ .matches .log) (received-there this (s₀ .log) p n (got p n p< low high))
 

@@ -80,9 +80,9 @@ module _ (members : List ℕ) (ring : ℕ) (a : Account) where
       ((placeOf c ≡ p) × (accepted (entryAfter a before c) ≡ true))
       ⊎ AcceptedIn p (before ++ (c ∷ [])) cs
 
-  -- a round is over when each station has accepted one more
-  abbrev pub RoundOver : List Call → List Call → Type 0
-  RoundOver before calls = (p : ℕ) → p < length members → AcceptedIn p before calls
+  -- a round is over when each station has accepted one more; the next begins there
+  abbrev pub Round : List Call → List Call → Type 0
+  Round before calls = (p : ℕ) → p < length members → AcceptedIn p before calls
 
   -- reading n and all before it: stations deliver in order. Rounds are counted from the place where they have been received: the first of
   -- the three begins there
@@ -90,9 +90,9 @@ module _ (members : List ℕ) (ring : ℕ) (a : Account) where
   Delivered calls = (before one two three : List Call)
       → calls ≡ before ++ (one ++ (two ++ three))
       → (n : ℕ) → 1 ≤ n → ((p k : ℕ) → p < length members → 1 ≤ k → k ≤ n → IsReceived before p k)
-      → RoundOver before one
-      → RoundOver (before ++ one) two
-      → RoundOver (before ++ (one ++ two)) three
+      → Round before one
+      → Round (before ++ one) two
+      → Round (before ++ (one ++ two)) three
       → (p : ℕ) (w : Written) → p < length members → IsReading calls n w → DeliveredAt p (a .log calls) (w .frame)
 
   pub record WholeRun (calls : List Call) : Type 0 where

@@ -12,10 +12,10 @@ use Rattle.frames.specs.declared.header.Header.{Header}
 use Rattle.frames.specs.declared.reader.Answer.{Answer}
 use Rattle.frames.specs.declared.reader.Answer.the-variants.{Refused, IsMessage, IsToken}
 use Rattle.record.specs.Ring.{isToken}
+use Rattle.station.specs.Answer.{outcomeOf}
 use Rattle.station.specs.Reply.{Reply}
 use Rattle.station.specs.Within.{framesIn}
 use Rattle.station.specs.declared.answer.Answer.{Answer as Said}
-use Rattle.station.specs.declared.answer.Answer.the-variants.{Refused as SaidNo, Founded, Posted, Kept, Had, Ahead, Accepted, Resent}
 use Rattle.ordering.specs.Lists.{Among, firstOf}
 use Rattle.ring.specs.Calls.{Call, post, arrival, resending, placeOf}
 
@@ -75,15 +75,9 @@ isSafe frame = saysSafe (readOf frame .answer)
 
 -- ---- reading n is received at a station: an arrival there answered 'kept' for its frame, or the call that first wrote it was made there
 
+-- the outcome 'kept' is 3
 abbrev pub saidKept : Said → Bool
-saidKept (SaidNo why) = false
-saidKept Founded = false
-saidKept Posted = false
-saidKept (Kept n) = true
-saidKept (Had n) = false
-saidKept (Ahead n) = false
-saidKept (Accepted frames deliveries deaf) = false
-saidKept (Resent n) = false
+saidKept answer = eqb (outcomeOf answer .outcome) 3
 
 -- the frame that was handed over
 abbrev pub handedOver : Call → Option (List ℕ)
