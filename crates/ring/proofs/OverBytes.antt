@@ -16,14 +16,14 @@ use Rattle.totem.specs.Over.{idsIn, postOver, arriveOver, resendOver}
 use Rattle.totem.proofs.OverLaws.{over-room}
 use Rattle.totem.proofs.ThereLaws.{posted-there, arrived-there, founded-there}
 use Rattle.ring.specs.Calls.{Call, post, arrival, resending, placeOf, replyTo}
-use Rattle.ring.specs.Run.{Ring, records, update, step, start, run}
+use Rattle.ring.specs.Run.{Ring, foundedAt, records, update, step, start, run}
 use Rattle.ring.specs.Demand.{Account, accountOf, CanAfter, WholeRun}
-use Rattle.ring.specs.OverBytes.{replyOver, bytesAfter, RingOver, updateOver, stepOver, runOver, startOver, accountOver, bytesFounded, Founding, overBytes, CanOver, Demand₃OverBytes, ListedOverBytes, NeverRefusedOverBytes, AlwaysWholeOverBytes}
+use Rattle.ring.specs.OverBytes.{replyOver, bytesAfter, RingOver, updateOver, stepOver, runOver, startOver, accountOver, foundedOver, bytesFounded, Founding, overBytes, CanOver, Demand₃OverBytes, ListedOverBytes, NeverRefusedOverBytes, AlwaysWholeOverBytes, FirstOverBytes}
 use Rattle.ring.specs.Listed.{ListedInOrder}
 use Rattle.ring.specs.Newest.{NewestAccepted}
 use Rattle.ring.proofs.AlwaysWhole.{always-whole-from}
 use Rattle.ring.proofs.Newest.{never-refused-from}
-use Rattle.ring.proofs.Start.{RingFacts, ring-facts, founded-at}
+use Rattle.ring.proofs.Start.{RingFacts, ring-facts, one-first, founded-at}
 use Rattle.ring.proofs.Demand.{FromFounded, demand₃-from}
 use Rattle.ring.proofs.Listed.{listed-from}
 
@@ -82,12 +82,14 @@ module _ (list : List ℕ) (ring : ℕ) (buffers : ℕ → List ℕ) (f : Foundi
   facts : RingFacts (idsIn list) ring
   facts = ring-facts (idsIn list) ring (f .foundable)
 
+  -- founding over bytes is founding
+  founded-same : (p : ℕ) → p < length (idsIn list) → foundedOver list ring buffers p ≡ foundedAt (idsIn list) ring p
+  founded-same p h = over-room (buffers p) list (getD (idsIn list) p 0) ring shortestToken (omega (arith, f .long p h))
+
   founded-lent : (p : ℕ) → p < length (idsIn list) → lent (bytesFounded list ring buffers p) ≡ records (idsIn list) ring p
   founded-lent p h =
-      let long = f .long p h in
-      let own = getD (idsIn list) p 0 in
-      let same = over-room (buffers p) list own ring shortestToken (omega (arith, long)) in
-      founded-there (buffers p) list own ring shortestToken long
+      let same = founded-same p h in
+      founded-there (buffers p) list (getD (idsIn list) p 0) ring shortestToken (f .long p h)
       (ap (λ (r : Reply). r .answer) (same ∙ founded-at (idsIn list) ring (facts .counted) (facts .follow) (facts .ranged) p h))
       ∙ ap (λ (r : Reply). r .rec) same
 
@@ -120,3 +122,6 @@ always-whole-over-bytes list ring buffers f calls can p h =
     ap (λ (r : Ring). whole (r .at p)) same
     ∙ always-whole-from (idsIn list) ring (ring-facts (idsIn list) ring (f .foundable)) (λ q. lent (founded q)) (founded-lent list ring buffers f) calls
     (subst (λ (a : Account). CanAfter (idsIn list) ring a [] calls) (account-lent founded) can) p h
+
+pub first-over-bytes : FirstOverBytes
+first-over-bytes list ring buffers f p h = ap (λ (r : Reply). r .frames) (founded-same list ring buffers f p h) ∙ one-first (idsIn list) ring (f .foundable) p h

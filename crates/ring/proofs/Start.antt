@@ -30,7 +30,7 @@ use Rattle.ordering.specs.Frame as seen
 use Rattle.ordering.specs.Lists.{Distinct}
 use Rattle.ordering.specs.Station.{Station, Store}
 use Rattle.ordering.specs.Run as ordered
-use Rattle.ring.specs.Run.{ringFoundable, records, firstFrame, ringOf, foundedAt}
+use Rattle.ring.specs.Run.{ringFoundable, OneFirst, records, firstFrame, ringOf, foundedAt}
 use Rattle.ring.proofs.View.{storeOf, leaveOf, stationSeen, frameSeen}
 use Rattle.ring.proofs.Law.{Rewrites}
 pub use Rattle.ring.proofs.FrameLaws.{token-seen}
@@ -141,3 +141,10 @@ module _ (members : List ℕ) (ring : ℕ) (counted : membersCounted members ≡
   pub ring-starts : (p : ℕ) → p < length members → ringHeader (current (records members ring p)) ≡ ringOf members ring
   unfolding fresh freshLog
   ring-starts p h = ap (λ (r : Reply). ringHeader (current (r .rec))) (founded-at p h) ∙ rw (placed-front members)
+
+-- every founding writes the same token
+pub one-first : OneFirst
+one-first members ring foundable p h =
+    let f = ring-facts members ring foundable in
+    ap (λ (r : Reply). r .frames) (founded-at members ring (f .counted) (f .follow) (f .ranged) p h)
+    ∙ sym (first-frame members ring (f .counted) (f .follow) (f .ranged))

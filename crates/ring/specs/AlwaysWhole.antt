@@ -3,16 +3,10 @@
 use Prim.Native.Nat.{ℕ, _<_}
 use mathlib.Core.Path.{_≡_}
 use mathlib.Core.Bool.{true}
-use mathlib.Core.List.{List, []}
 use lib.ListN.{length}
 use Rattle.record.specs.Whole.{whole}
-use Rattle.ring.specs.Calls.{Call}
-use Rattle.ring.specs.Run.{ringFoundable, records, start, run}
-use Rattle.ring.specs.Demand.{overStructs, CanAfter}
+use Rattle.ring.specs.Run.{records, start, run}
+use Rattle.ring.specs.Demand.{EveryRun}
 
 abbrev pub AlwaysWhole : Type 0
-AlwaysWhole = (members : List ℕ) (ring : ℕ)
-    → ringFoundable members ring ≡ true
-    → (calls : List Call)
-    → CanAfter members ring (overStructs members ring) [] calls
-    → (p : ℕ) → p < length members → whole (run (start (records members ring)) calls .at p) ≡ true
+AlwaysWhole = EveryRun (λ members ring a calls. (p : ℕ) → p < length members → whole (run (start (records members ring)) calls .at p) ≡ true)

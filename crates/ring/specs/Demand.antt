@@ -100,10 +100,13 @@ module _ (members : List ℕ) (ring : ℕ) (a : Account) where
     pub safe-first : SafeFirst calls
     pub delivered : Delivered calls
 
--- for 2 to 8 stations founded on one list and ring number, and every list of calls
-abbrev pub Demand₃ : Type 0
-Demand₃ = (members : List ℕ) (ring : ℕ)
+-- it holds for 2 to 8 stations founded on one list and ring number, and every list of calls
+abbrev pub EveryRun : (List ℕ → ℕ → Account → List Call → Type 0) → Type 0
+EveryRun P = (members : List ℕ) (ring : ℕ)
     → ringFoundable members ring ≡ true
     → (calls : List Call)
     → CanAfter members ring (overStructs members ring) [] calls
-    → WholeRun members ring (overStructs members ring) calls
+    → P members ring (overStructs members ring) calls
+
+abbrev pub Demand₃ : Type 0
+Demand₃ = EveryRun WholeRun

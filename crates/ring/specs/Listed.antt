@@ -2,13 +2,11 @@
 -- not ask for it in so many words; its first clause follows from it.
 use Prim.Native.Nat.{ℕ, suc, _<_}
 use mathlib.Core.Path.{_≡_}
-use mathlib.Core.Bool.{true}
 use mathlib.Core.List.{List, [], _∷_}
 use lib.ListN.{length}
 use Rattle.ring.specs.Calls.{Call}
 use Rattle.ring.specs.Log.{Written, deliveries}
-use Rattle.ring.specs.Run.{ringFoundable}
-use Rattle.ring.specs.Demand.{Account, overStructs, CanAfter, IsReading}
+use Rattle.ring.specs.Demand.{Account, IsReading, EveryRun}
 
 module _ (members : List ℕ) (ring : ℕ) (a : Account) where
   -- these frames are the readings from n on
@@ -22,8 +20,4 @@ module _ (members : List ℕ) (ring : ℕ) (a : Account) where
   ListedInOrder calls = (p : ℕ) → p < length members → ReadingsFrom calls 1 (deliveries p (a .log calls))
 
 abbrev pub Listed : Type 0
-Listed = (members : List ℕ) (ring : ℕ)
-    → ringFoundable members ring ≡ true
-    → (calls : List Call)
-    → CanAfter members ring (overStructs members ring) [] calls
-    → ListedInOrder members ring (overStructs members ring) calls
+Listed = EveryRun ListedInOrder

@@ -10,8 +10,8 @@ use Rattle.frames.specs.Read.{readOf}
 use Rattle.station.specs.Reply.{mostFrames, mostDeliveries}
 use Rattle.ring.specs.Calls.{Call, arrival}
 use Rattle.ring.specs.Log.{Entry, writtenBy, accepted}
-use Rattle.ring.specs.Run.{ringFoundable, firstFrame}
-use Rattle.ring.specs.Demand.{Account, overStructs, entryAfter, CanAfter}
+use Rattle.ring.specs.Run.{firstFrame}
+use Rattle.ring.specs.Demand.{Account, entryAfter, EveryRun}
 
 -- the last of the frames
 abbrev pub lastOf : List ℕ → List (List ℕ) → List ℕ
@@ -39,8 +39,4 @@ module _ (members : List ℕ) (ring : ℕ) (a : Account) where
         → accepted (entryAfter a calls (arrival place (newestAfter calls) frames deliveries)) ≡ true
 
 abbrev pub NeverRefused : Type 0
-NeverRefused = (members : List ℕ) (ring : ℕ)
-    → ringFoundable members ring ≡ true
-    → (calls : List Call)
-    → CanAfter members ring (overStructs members ring) [] calls
-    → NewestAccepted members ring (overStructs members ring) calls
+NeverRefused = EveryRun NewestAccepted

@@ -13,7 +13,7 @@ use Rattle.station.specs.Reply.{Reply, doneOf}
 use Rattle.totem.specs.Over.{idsIn, stationAfter, foundOver, postOver, arriveOver, resendOver}
 use Rattle.ring.specs.Calls.{Call, post, arrival, resending, placeOf}
 use Rattle.ring.specs.Log.{Entry}
-use Rattle.ring.specs.Run.{ringFoundable}
+use Rattle.ring.specs.Run.{ringFoundable, firstFrame}
 use Rattle.ring.specs.Demand.{Account, CanAfter, WholeRun}
 use Rattle.ring.specs.Listed.{ListedInOrder}
 use Rattle.ring.specs.Newest.{NewestAccepted}
@@ -58,10 +58,13 @@ accountOver founded =
       reply = λ before c. replyOver (runOver (startOver founded) before .at (placeOf c)) c;
     }
 
--- the bytes that founding left in each member's buffer; `list` has the members, two bytes an id
+-- founding over C at a place; `list` has the members, two bytes an id
+abbrev pub foundedOver : List ℕ → ℕ → (ℕ → List ℕ) → ℕ → Reply
+foundedOver list ring buffers p = foundOver (buffers p) list (getD (idsIn list) p 0) ring shortestToken
+
+-- the bytes that founding left in each member's buffer
 abbrev pub bytesFounded : List ℕ → ℕ → (ℕ → List ℕ) → ℕ → List ℕ
-bytesFounded list ring buffers p =
-    stationAfter (doneOf (foundOver (buffers p) list (getD (idsIn list) p 0) ring shortestToken)) (buffers p)
+bytesFounded list ring buffers p = stationAfter (doneOf (foundedOver list ring buffers p)) (buffers p)
 
 -- a ring that can be founded, its members' buffers of a record's length
 pub record Founding (list : List ℕ) (ring : ℕ) (buffers : ℕ → List ℕ) : Type 0 where
@@ -72,26 +75,36 @@ module _ (list : List ℕ) (ring : ℕ) (buffers : ℕ → List ℕ) where
   abbrev pub overBytes : Account
   overBytes = accountOver (bytesFounded list ring buffers)
 
-  -- the first token on the cable is the one that founding over bytes writes too
+  -- the first token on the cable is the one that founding over bytes writes too (`FirstOverBytes`)
   abbrev pub CanOver : List Call → Type 0
   CanOver calls = CanAfter (idsIn list) ring overBytes [] calls
 
+-- it holds for every ring founded so, and every list of calls
+abbrev pub EveryRunOver : (List ℕ → ℕ → Account → List Call → Type 0) → Type 0
+EveryRunOver P = (list : List ℕ) (ring : ℕ) (buffers : ℕ → List ℕ)
+    → Founding list ring buffers
+    → (calls : List Call)
+    → CanOver list ring buffers calls
+    → P (idsIn list) ring (overBytes list ring buffers) calls
+
 abbrev pub Demand₃OverBytes : Type 0
-Demand₃OverBytes = (list : List ℕ) (ring : ℕ) (buffers : ℕ → List ℕ) → Founding list ring buffers
-    → (calls : List Call) → CanOver list ring buffers calls
-    → WholeRun (idsIn list) ring (overBytes list ring buffers) calls
+Demand₃OverBytes = EveryRunOver WholeRun
 
 abbrev pub ListedOverBytes : Type 0
-ListedOverBytes = (list : List ℕ) (ring : ℕ) (buffers : ℕ → List ℕ) → Founding list ring buffers
-    → (calls : List Call) → CanOver list ring buffers calls
-    → ListedInOrder (idsIn list) ring (overBytes list ring buffers) calls
+ListedOverBytes = EveryRunOver ListedInOrder
 
 abbrev pub NeverRefusedOverBytes : Type 0
-NeverRefusedOverBytes = (list : List ℕ) (ring : ℕ) (buffers : ℕ → List ℕ) → Founding list ring buffers
-    → (calls : List Call) → CanOver list ring buffers calls
-    → NewestAccepted (idsIn list) ring (overBytes list ring buffers) calls
+NeverRefusedOverBytes = EveryRunOver NewestAccepted
 
 abbrev pub AlwaysWholeOverBytes : Type 0
-AlwaysWholeOverBytes = (list : List ℕ) (ring : ℕ) (buffers : ℕ → List ℕ) → Founding list ring buffers
-    → (calls : List Call) → CanOver list ring buffers calls
+AlwaysWholeOverBytes = (list : List ℕ) (ring : ℕ) (buffers : ℕ → List ℕ)
+    → Founding list ring buffers
+    → (calls : List Call)
+    → CanOver list ring buffers calls
     → (p : ℕ) → p < length (idsIn list) → bytesWhole (runOver (startOver (bytesFounded list ring buffers)) calls .at p) ≡ true
+
+-- every founding over bytes writes the ring's first token
+abbrev pub FirstOverBytes : Type 0
+FirstOverBytes = (list : List ℕ) (ring : ℕ) (buffers : ℕ → List ℕ)
+    → Founding list ring buffers
+    → (p : ℕ) → p < length (idsIn list) → foundedOver list ring buffers p .frames ≡ firstFrame (idsIn list) ring

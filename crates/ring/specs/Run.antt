@@ -1,8 +1,9 @@
 -- A ring of stations founded on one list and ring number, and a list of calls. [document 01, The words of demand 3]
-use Prim.Native.Nat.{ℕ}
-use mathlib.Core.Bool.{Bool, _&&_, cond}
+use Prim.Native.Nat.{ℕ, _<_}
+use mathlib.Core.Path.{_≡_}
+use mathlib.Core.Bool.{Bool, true, _&&_, cond}
 use mathlib.Core.List.{List, [], _∷_}
-use lib.ListN.{getD}
+use lib.ListN.{length, getD}
 use lib.Dec.{eqb}
 use Rattle.frames.specs.Layout.{shortestToken}
 use Rattle.frames.specs.declared.header.Header.{Header}
@@ -33,9 +34,15 @@ foundedAt members ring p = foundedOn noRecord shortestToken members (getD member
 abbrev pub records : List ℕ → ℕ → ℕ → Record
 records members ring p = foundedAt members ring p .rec
 
--- the token that every founding writes: no own id stands in it
+-- the ring's first token
 abbrev pub firstFrame : List ℕ → ℕ → List ℕ
 firstFrame members ring = foundedAt members ring 0 .frames
+
+-- every founding writes it: no own id stands in it
+abbrev pub OneFirst : Type 0
+OneFirst = (members : List ℕ) (ring : ℕ)
+    → ringFoundable members ring ≡ true
+    → (p : ℕ) → p < length members → foundedAt members ring p .frames ≡ firstFrame members ring
 
 -- the ring: its number and representative
 abbrev pub ringOf : List ℕ → ℕ → Header
