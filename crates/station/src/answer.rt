@@ -13,7 +13,8 @@ pub enum Answer {
     Kept(u16),
     Had(u16),
     Ahead(u16),
-    // A token arrived and was accepted: the bytes written for the cable, the bytes delivered, and the id in the notice 'deaf', or 0.
+    // A token arrived and was accepted: the bytes written for the cable, the bytes delivered, and the id
+    // in the notice 'deaf', or 0.
     Accepted {
         frames: u16,
         deliveries: u16,
@@ -28,7 +29,8 @@ pub enum Answer {
 pub struct Outcome {
     // The question that was answered 'no', or 0.
     pub refusal: u16,
-    // What happened: 0 with a refusal, else 1 founded, 2 posted, 3 kept, 4 had, 5 ahead, 6 accepted, 7 resent.
+    // What happened: 0 with a refusal, else 1 founded, 2 posted, 3 kept, 4 had, 5 ahead, 6 accepted,
+    // 7 resent.
     pub outcome: u16,
     // Output counts, in bytes.
     pub frames: u16,
