@@ -16,7 +16,7 @@ use Rattle.frames.specs.Layout.{mostRound, mostRequests, requestsAt}
 use Rattle.frames.specs.Token.{blockerFollows, requestsOf, requestsFollow, tokenFollows}
 use Rattle.frames.specs.declared.token.Token.{Token}
 
-drop-replicate : {A : Type 0} (m n : ℕ) (a : A) → drop n (replicate m a) ≡ replicate (m - n) a
+pub drop-replicate : {A : Type 0} (m n : ℕ) (a : A) → drop n (replicate m a) ≡ replicate (m - n) a
 drop-replicate m zero a = rw sub-zero
 drop-replicate zero (suc n) a = rw zero-sub
 drop-replicate (suc m) (suc n) a = rw suc-sub-suc (drop-replicate m n a)

@@ -34,6 +34,9 @@ pub const MOST_SERVICE: u16 = 1;
 
 pub const MOST_CONTENT: usize = 64;
 
+// A message without content, and one with all.
+pub const SHORTEST_MESSAGE: usize = CONTENT_AT;
+
 pub const LONGEST_MESSAGE: usize = CONTENT_AT + MOST_CONTENT;
 
 // Kind 2, token.

@@ -7,7 +7,9 @@ pub mod MemberLaws
 pub mod UnusedLaws
 pub mod WholeLaws
 pub mod FreshLaws
+pub mod HeldSteps
 pub mod HeldLaws
+pub mod TakeLaws
 pub mod PostLaws
 pub mod PaddedLaws
 pub mod PostsWhole

@@ -10,9 +10,10 @@ use native.Mathlib.Decide.{decLt}
 use native.Mathlib.Omega.{arith}
 use lib.ListN.{length, getD, set, take, drop, replicate, length-append, length-drop, length-replicate, List·getD-append}
 use lib.Dec.{leb·zero}
-use lib.Seq.{sets, sets-eq, take-at, drop-at, take-set-le, drop-set-lt, drop-set-add, length-take-le, getD-set-same, getD-set-other, getD-drop, drop-drop, drop-append-le, take-append-le, take-nil}
+use lib.Seq.{sets, sets-eq, take-at, drop-at, take-set-le, drop-set-lt, drop-set-add, length-take-le, getD-set-same, getD-set-other, getD-drop, drop-drop, drop-append-le, take-append-le, take-nil, take-all}
 use Rattle.words.specs.Scan.{every, allWithin, allZero}
 use Rattle.frames.specs.Layout.{mostContent}
+use Rattle.frames.proofs.TokenLaws.{drop-replicate}
 
 -- ---- a part that the stores don't touch
 
@@ -74,6 +75,13 @@ content-other lengths contents p place n vs apart short few =
 
 pub length-moved : (l : List ℕ) (n : ℕ) → n ≤ length l → length (drop n l ++ replicate n 0) ≡ length l
 length-moved l n h = length-append (drop n l) (replicate n 0) ∙ rw (length-drop, length-replicate) (omega arith)
+
+-- the same as the code spells it: what is left goes to the front of zeros
+pub moved-up : (l : List ℕ) (size n : ℕ) → length l ≡ size → n ≤ size → take (size - n) (drop n l) ++ drop (size - n) (replicate size 0) ≡ drop n l ++ replicate n 0
+moved-up l size n long h =
+    let left : length (drop n l) ≤ size - n = rw length-drop (omega arith) in
+    let right : size - (size - n) ≡ n = omega arith in
+    rw (take-all (size - n) (drop n l) left, drop-replicate size (size - n), right)
 
 -- a number that moved up n places
 pub moved-number : (l : List ℕ) (n k : ℕ) → n + k < length l → getD (drop n l ++ replicate n 0) k 0 ≡ getD l (n + k) 0

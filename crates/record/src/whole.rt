@@ -5,16 +5,15 @@ ghost use Prim.Native.Nat.{_≤_};
 ghost use Rattle.frames.specs.Number.{mostNumber};
 ghost use Rattle.frames.specs.Layout.{longestToken};
 ghost use Rattle.record.specs.Size.{mostMembers};
-ghost use Rattle.record.specs.Held.{holds};
 ghost use Rattle.record.specs.Members.{foundable};
 ghost use Rattle.record.specs.Ring.{ids};
 ghost use Rattle.record.specs.Whole.{sendersAreMembers, leaveIsGood, marksInOrder, arusReached, heldToLevel, nextNotHeld, whole};
 use crate::Record;
+use crate::held;
 use crate::log::Log;
 use crate::members;
 use crate::range;
 use crate::ring;
-use crate::size;
 use crate::turn::Turn;
 use crate::unused;
 use frames::MessageNumber;
@@ -58,16 +57,6 @@ fn arus_reached(t: Turn, level: MessageNumber) -> bool
     (t.aru.0 <= level.0) & (t.earlier.0 <= level.0)
 }
 
-// Is this number held?
-pub fn is_held(l: Log, n: MessageNumber) -> bool
-    requires { ⌜ l .safe .0 ≤ mostNumber ⌝ }
-    ensures { λ r. ⌜ r ≡ holds l (n .0) ⌝ }
-{
-    let senders = l.held.senders;
-    let place = n.0 as usize % size::MOST_HELD;
-    (l.safe.0 < n.0) & (n.0 <= l.safe.0 + size::MOST_HELD as u32) & (senders[place] != 0)
-}
-
 fn held_to_level(l: Log) -> bool
     requires { ⌜ (l .safe .0 ≤ mostNumber) × (l .level .0 ≤ mostNumber) ⌝ }
     ensures { λ r. ⌜ r ≡ heldToLevel l ⌝ }
@@ -75,7 +64,7 @@ fn held_to_level(l: Log) -> bool
     let level = l.level.0;
     let mut n = l.safe.0 + 1;
     while n <= level {
-        let good = is_held(l, MessageNumber(n));
+        let good = held::is_held(l, MessageNumber(n));
         if !good {
             return false;
         }
@@ -88,7 +77,7 @@ fn next_not_held(l: Log) -> bool
     requires { ⌜ (l .safe .0 ≤ mostNumber) × (l .level .0 ≤ mostNumber) ⌝ }
     ensures { λ r. ⌜ r ≡ nextNotHeld l ⌝ }
 {
-    !is_held(l, MessageNumber(l.level.0 + 1))
+    !held::is_held(l, MessageNumber(l.level.0 + 1))
 }
 
 // The clauses on members: held senders, the token that may be resent, the founding questions.

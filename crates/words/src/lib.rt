@@ -5,6 +5,7 @@ mod run;
 mod scan;
 mod word;
 
+pub use run::copy_u16s;
 pub use run::get_bytes;
 pub use run::get_u16s;
 pub use run::get_u32s;

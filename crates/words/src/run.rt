@@ -42,6 +42,26 @@ pub fn get_u32s(s: &[u8], at: usize, n: usize, out: &mut [u32])
     }
 }
 
+// Numbers of two bytes among others.
+fn store_u16s(out: &mut [u16], at: usize, xs: &[u16])
+    requires { ⌜ at + length (now xs) ≤ length (now out) ⌝ }
+    ensures { λ _. ⌜ now (out .exit) ≡ sets (now (out .entry)) at (now (xs .entry)) ⌝ }
+{
+    let mut i = 0;
+    while i < xs.len() {
+        out[at + i] = xs[i];
+        i += 1;
+    }
+}
+
+// The n numbers of s from `at` on go to the front of out.
+pub fn copy_u16s(s: &[u16], at: usize, n: usize, out: &mut [u16])
+    requires { ⌜ (at + n ≤ length (now s)) × (n ≤ length (now out)) ⌝ }
+    ensures { λ _. ⌜ now (out .exit) ≡ take n (drop at (now (s .entry))) ++ drop n (now (out .entry)) ⌝ }
+{
+    store_u16s(out, 0, &s[at..at + n]);
+}
+
 pub fn put_bytes(out: &mut [u8], at: usize, xs: &[u8])
     requires { ⌜ at + length (now xs) ≤ length (now out) ⌝ }
     ensures { λ _. ⌜ now (out .exit) ≡ sets (now (out .entry)) at (now (xs .entry)) ⌝ }

@@ -1,8 +1,8 @@
 use mathlib.Core.Path.{refl}
 use borrow.Author.Needs.{needs}
 use Rattle.record.specs.Held.{holds}
-use Rattle.record.proofs.whole.is_held.Statement.{statement}
-use Rattle.record.proofs.whole.is_held.Tie as tie
+use Rattle.record.proofs.held.is_held.Statement.{statement}
+use Rattle.record.proofs.held.is_held.Tie as tie
 
 returns : tie.Need-returns
 unfolding holds

@@ -1,0 +1,32 @@
+-- The oldest posts are taken: what the code's copies leave is what `taken` says.
+use Prim.Native.Nat.{ℕ, _*_, _-_, _≤_}
+use mathlib.Core.Path.{_≡_}
+use mathlib.Core.List.{List, _++_}
+use native.Mathlib.Omega.{arith}
+use lib.ListN.{length, take, drop, replicate}
+use Rattle.frames.specs.Layout.{mostContent}
+use Rattle.record.specs.Size.{mostPosts, postContents}
+use Rattle.record.specs.Posts.{taken}
+use Rattle.record.specs.declared.posts.Posts.{Posts}
+use Rattle.record.proofs.Arrays.{PostsArrays}
+use Rattle.record.proofs.ListLaws.{moved-up}
+
+pub posts-taken : (p : Posts) (n : ℕ) (services lengths contents : List ℕ)
+    → PostsArrays p
+    → n ≤ mostPosts
+    → services ≡ take (mostPosts - n) (drop n (p .services)) ++ drop (mostPosts - n) (replicate mostPosts 0)
+    → lengths ≡ take (mostPosts - n) (drop n (p .lengths)) ++ drop (mostPosts - n) (replicate mostPosts 0)
+    → contents ≡ take (mostContent * (mostPosts - n)) (drop (mostContent * n) (p .contents)) ++ drop (mostContent * (mostPosts - n)) (replicate postContents 0)
+    → record { count = p .count - n; services = services; lengths = lengths; contents = contents } ≡ taken p n
+unfolding taken
+posts-taken p n services lengths contents a h e f g =
+    let left : mostContent * (mostPosts - n) ≡ postContents - mostContent * n = omega arith in
+    rw (
+      e,
+      moved-up (p .services) mostPosts n (a .services) h,
+      f,
+      moved-up (p .lengths) mostPosts n (a .lengths) h,
+      g,
+      left,
+      moved-up (p .contents) postContents (mostContent * n) (a .contents) (omega arith),
+    )

@@ -1,0 +1,11 @@
+use borrow.Author.Needs.{needs}
+use Rattle.record.proofs.held.store.Statement.{statement}
+use Rattle.record.proofs.held.store.Tie as tie
+
+returns : tie.Need-returns
+returns c = cc
+
+pub store-spec : {M : Type 1} → statement M
+store-spec =
+    tie.close
+    (tie.spec (λ c. search needs) (λ c κs. search needs) (λ c κs. search needs) returns)
