@@ -51,7 +51,7 @@ module _ (l : Log) (g : Writable l) (n : ℕ) (h : holds l n ≡ true) where
   number-good : isNumber n ≡ true
   number-good = rw (le-leb 1 n (omega (arith, holding l n h .low)), le-leb n mostNumber (g .log .ready .stock .numbers n h))
 
-  held-follows : messageFollows (messageWith l n (entryOf l n)) (entryOf l n .content) ≡ true
+  pub held-follows : messageFollows (messageWith l n (entryOf l n)) (entryOf l n .content) ≡ true
   unfolding messageFollows
   held-follows =
       rw (

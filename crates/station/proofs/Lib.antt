@@ -9,6 +9,7 @@ pub mod ReplyGood
 pub mod RingFacts
 pub mod LevelLaws
 pub mod NewsLaws
+pub mod HoldNews
 pub mod EachLaws
 pub mod WithinLaws
 pub mod FrameLaws
@@ -20,6 +21,17 @@ pub mod ArrivedCases
 pub mod ArrivedFits
 pub mod DueLaws
 pub mod LogSteps
+pub mod ListedLaws
+pub mod CirculationLaws
+pub mod MarkLaws
+pub mod PutFrames
+pub mod DueCount
+pub mod HearLaws
+pub mod ArriveLaws
+pub mod SentLaws
+pub mod Broadcast
+pub mod Forward
+pub mod Leave
 pub mod MessageWhole
 pub mod NewsWhole
 pub mod VisitWhole

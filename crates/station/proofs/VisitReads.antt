@@ -1,21 +1,24 @@
 -- Every frame that a visit writes or hands out reads, and question 1's sizes always suffice.
-use Prim.Native.Nat.{_+_, _≤_}
-use mathlib.Core.Path.{_≡_, ap}
+use Prim.Native.Nat.{_+_, _*_, _≤_}
+use mathlib.Core.Path.{_≡_, ap, _∙_}
 use mathlib.Core.Bool.{true}
-use mathlib.Core.List.{[], _∷_, _++_, map, flatten}
+use mathlib.Core.List.{[], _∷_, _++_, map, flatten, append-nil}
 use native.Mathlib.Omega.{arith}
 use lib.ListN.{length, length-append}
+use Rattle.frames.specs.Layout.{longestMessage}
 use Rattle.frames.specs.Token.{tokenBytes}
 use Rattle.frames.specs.Read.{readOf}
 use Rattle.frames.specs.declared.reader.Reading.{Reading}
 use Rattle.frames.proofs.Rewritten.{Exact, token-read}
 use Rattle.record.specs.Held.{holds}
+use Rattle.record.specs.Size.{mostBroadcasts}
 use Rattle.record.specs.Ring.{ids}
 use Rattle.station.specs.Reply.{mostFrames, mostDeliveries}
 use Rattle.station.specs.Deliver.{frameOf, joined}
 use Rattle.station.specs.Visit.{Visit, log, own, nextMember, requests, repeats, newCount, news, numbersAfter, highest′, logNow, safe′, broadcasts, token′, written, accepted}
 use Rattle.station.specs.Within.{framesIn}
 use Rattle.station.specs.EveryArrival.{Each, Acceptable, HeldReads, VisitReads, AcceptedReads}
+use Rattle.station.specs.Steps.{sentFrames}
 use Rattle.station.proofs.EachLaws.{Between, each-map, each-append, those-pass, after-between, after-length}
 use Rattle.station.proofs.RingFacts.{ring-header}
 use Rattle.station.proofs.VisitFacts.{facts, few-broadcasts, now-new, now-good, now-ring}
@@ -84,25 +87,29 @@ module _ (v : Visit) (a : Acceptable v) where
   unfolding news
   news-length = after-length (v .token .highest .0) (newCount v)
 
-  pub written-fits : length (joined (written v)) ≤ mostFrames
-  unfolding written broadcasts flatten
-  written-fits =
+  -- repeats and new messages
+  pub sent-short : length (joined (sentFrames v)) ≤ mostBroadcasts * longestMessage
+  unfolding broadcasts
+  sent-short =
       let old = map (frameOf (log v)) (repeats v) in
       let new = map (frameOf (logNow v)) (news v) in
-      let last = tokenBytes (token′ v) in
       omega (
         arith,
-        ap length (joined-join (old ++ new) (last ∷ [])),
-        length-append (joined (old ++ new)) (last ++ []),
         ap length (joined-join old new),
         length-append (joined old) (joined new),
-        length-append last [],
         frames-short (log v) before-writable (repeats v) repeats-held,
         frames-short (logNow v) now-writable (news v) news-held,
         news-length,
-        token-short v a,
         few-broadcasts v a,
       )
+
+  -- the token behind them
+  pub written-is : joined (written v) ≡ joined (sentFrames v) ++ tokenBytes (token′ v)
+  unfolding written flatten
+  written-is = joined-join (sentFrames v) (tokenBytes (token′ v) ∷ []) ∙ rw append-nil
+
+  pub written-fits : length (joined (written v)) ≤ mostFrames
+  written-fits = omega (arith, ap length written-is, length-append (joined (sentFrames v)) (tokenBytes (token′ v)), sent-short, token-short v a)
 
   pub accepted-fits : (length (accepted v .frames) ≤ mostFrames) × (length (accepted v .deliveries) ≤ mostDeliveries)
   unfolding accepted

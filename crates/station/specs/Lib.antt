@@ -12,6 +12,7 @@ pub mod Arrive
 pub mod Within
 pub mod EveryReply
 pub mod EveryArrival
+pub mod Steps
 pub mod Sample
 pub mod ArrivalTrials
 pub mod Trials

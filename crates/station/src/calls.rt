@@ -7,7 +7,9 @@ ghost use Rattle.station.specs.Reply.{followedBy};
 ghost use Rattle.station.specs.Found.{foundedOn};
 ghost use Rattle.station.specs.Post.{posted};
 ghost use Rattle.station.specs.Resend.{resent};
+ghost use Rattle.station.specs.Arrive.{arrived};
 use crate::answer::Answer;
+use crate::arriving;
 use crate::done;
 use crate::founding;
 use crate::posting;
@@ -41,6 +43,27 @@ pub fn post(rec: &mut Record, service: u16, content: &[u8]) -> Answer
         × (outcomeOf r ≡ outcomeOf ((posted (now (rec .entry)) service (now (content .entry))) .answer)) ⌝ }
 {
     let done = posting::post_step(*rec, service, content);
+    *rec = done::rec_of(done);
+    done::answer_of(done)
+}
+
+// A frame arrives. Ruled out: every message 'ahead'; tokens passed along untouched.
+pub fn arrive(rec: &mut Record, frame: &[u8], frames: &mut [u8], deliveries: &mut [u8]) -> Answer
+    ensures { λ r. ⌜
+        (now (rec .exit)
+        ≡ (arrived (now (rec .entry)) (now (frame .entry)) (length (now (frames .entry))) (length (now (deliveries .entry)))) .rec)
+        × (r
+        ≡ (arrived (now (rec .entry)) (now (frame .entry)) (length (now (frames .entry))) (length (now (deliveries .entry)))) .answer)
+        × (now (frames .exit) ≡ followedBy
+        ((arrived (now (rec .entry)) (now (frame .entry)) (length (now (frames .entry))) (length (now (deliveries .entry)))) .frames)
+        (now (frames .entry)))
+        × (now (deliveries .exit) ≡ followedBy
+        ((arrived (now (rec .entry)) (now (frame .entry)) (length (now (frames .entry))) (length (now (deliveries .entry)))) .deliveries)
+        (now (deliveries .entry)))
+        × (outcomeOf r ≡ outcomeOf
+        ((arrived (now (rec .entry)) (now (frame .entry)) (length (now (frames .entry))) (length (now (deliveries .entry)))) .answer)) ⌝ }
+{
+    let done = arriving::arrive_step(*rec, frame, frames, deliveries);
     *rec = done::rec_of(done);
     done::answer_of(done)
 }

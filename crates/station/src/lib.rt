@@ -1,17 +1,32 @@
-// One station of a ring: founding, posting and resending, each as a step by value and as a call on a
+// One station of a ring: founding, posting, arrival and resending, each as a step by value and as a call on a
 // lent record. Every public call takes any values and any bytes of any length.
 mod answer;
+mod arriving;
+mod broadcasting;
 mod calls;
+mod circulation;
+mod delivering;
 mod done;
+mod flow;
+mod forwarding;
 mod founding;
+mod hearing;
+mod held_frames;
+mod level;
+mod marks;
+mod news;
 mod posting;
 mod refusal;
+mod requests;
 mod resending;
 mod room;
+mod visiting;
 
 pub use answer::Answer;
 pub use answer::Outcome;
 pub use answer::outcome_of;
+pub use arriving::arrive_step;
+pub use calls::arrive;
 pub use calls::found;
 pub use calls::post;
 pub use calls::resend;
@@ -23,3 +38,5 @@ pub use posting::post_step;
 pub use refusal::Refusal;
 pub use refusal::refusal_number;
 pub use resending::resend_step;
+pub use room::MOST_DELIVERIES;
+pub use room::MOST_FRAMES;

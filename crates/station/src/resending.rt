@@ -15,7 +15,7 @@ use record::Record;
 use record::Turn;
 
 // The remembered token's bytes to the front.
-fn put_remembered(t: Turn, frames: &mut [u8])
+pub fn put_remembered(t: Turn, frames: &mut [u8])
     requires { ⌜ (t .size ≤ longestToken) × (longestToken ≤ length (now frames)) ⌝ }
     ensures { λ _. ⌜ now (frames .exit) ≡ followedBy (remembered t) (now (frames .entry)) ⌝ }
 {

@@ -33,7 +33,7 @@ use Rattle.station.specs.declared.answer.Answer.the-variants.{Refused}
 use Rattle.station.specs.declared.answer.Outcome.{Outcome}
 use Rattle.station.specs.declared.done.Done.{Done}
 use Rattle.station.proofs.RefusalLaws.{some-number}
-use Rattle.totem.specs.Over.{idsIn, isTaken, stationAfter, foundOver, postOver, resendOver}
+use Rattle.totem.specs.Over.{idsIn, isTaken, stationAfter, foundOver, postOver, arriveOver, resendOver}
 
 -- ---- the record put back
 
@@ -79,6 +79,15 @@ pub post-long : (r : Record) (s : List ℕ) (service : ℕ) (content : List ℕ)
     → recordSize ≤ length s
 post-long r s service content done e d t =
     let w = post-whole r service content (rw d at t) in
+    omega (arith, whole-long s (rw e at w))
+
+pub arrive-long : (r : Record) (s frame : List ℕ) (frames deliveries : ℕ) (done : Done)
+    → r ≡ lent s
+    → done ≡ doneOf (arrived r frame frames deliveries)
+    → isTaken (done .answer) ≡ true
+    → recordSize ≤ length s
+arrive-long r s frame frames deliveries done e d t =
+    let w = arrive-whole r frame frames deliveries (rw d at t) in
     omega (arith, whole-long s (rw e at w))
 
 -- ---- the list of members
@@ -139,6 +148,22 @@ post-over s service content r done a o s′ l d g e f =
     let reply = posted (lent s) service content in
     let d′ : done ≡ doneOf reply = rw l at d in
     (said reply done a o d′ e f, left reply done a o d′ e f s s′ g)
+
+pub arrive-over : (s frame out told : List ℕ) (r : Record) (done : Done) (a : Answer) (o : Outcome) (s′ out′ told′ : List ℕ)
+    → r ≡ lent s
+    → (done ≡ doneOf (arrived r frame (length out) (length told))) × (out′ ≡ followedBy (arrived r frame (length out) (length told) .frames) out) × (told′ ≡ followedBy (arrived r frame (length out) (length told) .deliveries) told)
+    → s′ ≡ stationAfter done s
+    → a ≡ done .answer
+    → o ≡ outcomeOf a
+    → (o ≡ outcomeOf (arriveOver s frame (length out) (length told) .answer))
+    × (s′ ≡ stationAfter (doneOf (arriveOver s frame (length out) (length told))) s)
+    × (out′ ≡ followedBy (arriveOver s frame (length out) (length told) .frames) out)
+    × (told′ ≡ followedBy (arriveOver s frame (length out) (length told) .deliveries) told)
+unfolding arriveOver
+arrive-over s frame out told r done a o s′ out′ told′ l d g e f =
+    let reply = arrived (lent s) frame (length out) (length told) in
+    let d′ : (done ≡ doneOf reply) × (out′ ≡ followedBy (reply .frames) out) × (told′ ≡ followedBy (reply .deliveries) told) = rw l at d in
+    (said reply done a o (d′ .0) e f, left reply done a o (d′ .0) e f s s′ g, d′ .1, d′ .2)
 
 pub resend-over : (s out : List ℕ) (r : Record) (done : Done) (a : Answer) (o : Outcome) (out′ : List ℕ)
     → r ≡ lent s

@@ -10,7 +10,7 @@ ghost use Rattle.record.specs.Lent.{noRecord};
 ghost use Rattle.station.specs.Answer.{outcomeOf};
 ghost use Rattle.station.specs.Reply.{doneOf, followedBy};
 ghost use Rattle.station.specs.Found.{foundedOn};
-ghost use Rattle.totem.specs.Over.{idsIn, isTaken, stationAfter, foundOver, postOver, resendOver};
+ghost use Rattle.totem.specs.Over.{idsIn, isTaken, stationAfter, foundOver, postOver, arriveOver, resendOver};
 use frames::RingNumber;
 use station::Answer;
 use station::Done;
@@ -102,6 +102,32 @@ pub extern "C" fn totem_post(bytes: &mut [u8], service: u16, content: &[u8]) -> 
         (now (bytes .entry))) ⌝ }
 {
     let done = station::post_step(record::record_in(bytes), service, content);
+    put_back(bytes, done);
+    station::outcome_of(station::answer_of(done))
+}
+
+// Arrival. Ruled out: every message 'ahead'; a record written with a refusal.
+#[no_mangle]
+pub extern "C" fn totem_arrive(
+    bytes: &mut [u8],
+    frame: &[u8],
+    frames: &mut [u8],
+    deliveries: &mut [u8],
+) -> Outcome
+    ensures { λ r. ⌜
+        (r ≡ outcomeOf
+        (arriveOver (now (bytes .entry)) (now (frame .entry)) (length (now (frames .entry))) (length (now (deliveries .entry))) .answer))
+        × (now (bytes .exit) ≡ stationAfter
+        (doneOf (arriveOver (now (bytes .entry)) (now (frame .entry)) (length (now (frames .entry))) (length (now (deliveries .entry)))))
+        (now (bytes .entry)))
+        × (now (frames .exit) ≡ followedBy
+        (arriveOver (now (bytes .entry)) (now (frame .entry)) (length (now (frames .entry))) (length (now (deliveries .entry))) .frames)
+        (now (frames .entry)))
+        × (now (deliveries .exit) ≡ followedBy
+        (arriveOver (now (bytes .entry)) (now (frame .entry)) (length (now (frames .entry))) (length (now (deliveries .entry))) .deliveries)
+        (now (deliveries .entry))) ⌝ }
+{
+    let done = station::arrive_step(record::record_in(bytes), frame, frames, deliveries);
     put_back(bytes, done);
     station::outcome_of(station::answer_of(done))
 }

@@ -1,0 +1,243 @@
+-- Arrival, question by question.
+use Prim.Native.Nat.{ℕ, suc, _+_, _-_, _<_, _≤_}
+use mathlib.Core.Path.{_≡_, refl, sym, _∙_}
+use mathlib.Core.Bool.{Bool, true, false, not, _||_}
+use mathlib.Core.List.{List, []}
+use borrow.Author.Tests.{le-leb, lt-leb, le-ltb, lt-ltb, eq-eqb, ne-eqb}
+use native.Mathlib.Nat.{sub-zero}
+use native.Mathlib.Numerals.{add-one}
+use native.Mathlib.Omega.{arith}
+use lib.ListN.{length, take}
+use lib.Dec.{leb}
+use Rattle.frames.specs.Number.{mostNumber}
+use Rattle.frames.specs.Message.{contentOf, messageFollows}
+use Rattle.frames.specs.Token.{tokenFollows}
+use Rattle.frames.specs.Read.{readOf}
+use Rattle.frames.specs.declared.refusal.Refusal.{Refusal as Unread}
+use Rattle.frames.specs.declared.header.Header.{Header}
+use Rattle.frames.specs.declared.message.Message.{Message}
+use Rattle.frames.specs.declared.token.Token.{Token}
+use Rattle.frames.specs.declared.reader.Reading.{Reading}
+use Rattle.frames.specs.declared.reader.Answer.the-variants.{Refused as Unreadable, IsMessage, IsToken}
+use Rattle.record.specs.Size.{mostHeld}
+use Rattle.record.specs.Count.{everyFrom}
+use Rattle.record.specs.Held.{holds}
+use Rattle.record.specs.Members.{isMember}
+use Rattle.record.specs.Ring.{current, ids, thisRing, tokenMembers}
+use Rattle.record.specs.Whole.{whole}
+use Rattle.record.specs.declared.log.Log.{Log}
+use Rattle.record.specs.declared.Record.{Record}
+use Rattle.record.proofs.WholeFacts.{whole-good}
+use Rattle.station.specs.Reply.{Reply, refused, asks, doneOf, followedBy, mostFrames, mostDeliveries}
+use Rattle.station.specs.Message.{messageHeard}
+use Rattle.station.specs.Visit.{accepted}
+use Rattle.station.specs.Arrive.{readerRefusal, coversHeld, messageArrived, tokenArrived, frameArrived, arrived}
+use Rattle.station.specs.EveryArrival.{visit}
+use Rattle.station.specs.declared.refusal.Refusal.{Refusal}
+use Rattle.station.specs.declared.refusal.Refusal.the-variants.{NoRoom, NotWhole, OtherRing, NotMember, OtherAddressee, OldToken, LastToken, BelowHeld}
+use Rattle.station.specs.declared.done.Done.{Done}
+use Rattle.station.proofs.ReplyLaws.{asked}
+use Rattle.station.proofs.ArrivedCases.{ReadCase, unread, message, token, read-case}
+
+-- ---- of a call with buffers for deliveries, or for frames and deliveries, once it is known what the reply is
+
+pub leaves-deliveries : (reply known : Reply) (done : Done) (out out′ : List ℕ)
+    → reply ≡ known
+    → (done ≡ doneOf known) × (out′ ≡ followedBy (known .deliveries) out)
+    → (done ≡ doneOf reply) × (out′ ≡ followedBy (reply .deliveries) out)
+leaves-deliveries reply known done out out′ e h = rw e h
+
+pub refuses-deliveries : (reply : Reply) (r : Record) (why : Refusal) (done : Done) (out : List ℕ)
+    → reply ≡ refused r why
+    → done ≡ doneOf (refused r why)
+    → (done ≡ doneOf reply) × (out ≡ followedBy (reply .deliveries) out)
+refuses-deliveries reply r why done out e d = rw e (d, refl)
+
+pub leaves-both : (reply known : Reply) (done : Done) (frames frames′ out out′ : List ℕ)
+    → reply ≡ known
+    → (done ≡ doneOf known) × (frames′ ≡ followedBy (known .frames) frames) × (out′ ≡ followedBy (known .deliveries) out)
+    → (done ≡ doneOf reply) × (frames′ ≡ followedBy (reply .frames) frames) × (out′ ≡ followedBy (reply .deliveries) out)
+leaves-both reply known done frames frames′ out out′ e h = rw e h
+
+pub refuses-both : (reply : Reply) (r : Record) (why : Refusal) (done : Done) (frames out : List ℕ)
+    → reply ≡ refused r why
+    → done ≡ doneOf (refused r why)
+    → (done ≡ doneOf reply) × (frames ≡ followedBy (reply .frames) frames) × (out ≡ followedBy (reply .deliveries) out)
+refuses-both reply r why done frames out e d = rw e (d, refl, refl)
+
+-- ---- 18, number by number
+
+module _ (l : Log) (highest : ℕ) where
+  -- covers this number
+  abbrev pub covers : ℕ → Bool
+  covers n = leb n highest || not (holds l n)
+
+  pub covers-below : highest < l .level .0 → false ≡ coversHeld l highest
+  unfolding coversHeld
+  covers-below h = rw (lt-leb (l .level .0) highest h)
+
+  pub covers-rest : (b : Bool) → l .level .0 ≤ highest → b ≡ everyFrom (λ n. covers n) (suc (l .safe .0)) mostHeld → b ≡ coversHeld l highest
+  unfolding coversHeld
+  covers-rest b h e = rw (le-leb (l .level .0) highest h) e
+
+  -- as the code asks
+  pub covers-at : (i : ℕ) (held b : Bool)
+      → held ≡ holds l (l .safe .0 + 1 + i)
+      → leb (l .safe .0 + 1 + i) highest || not held ≡ b
+      → covers (suc (l .safe .0) + i) ≡ b
+  covers-at i held b e f = rw (← add-one (l .safe .0)) (rw e at f)
+
+-- ---- the members, as the code spells them
+
+module _ (r : Record) (w : whole r ≡ true) where
+  pub count-fits : r .log .count ≤ length (r .log .members)
+  count-fits = let m = whole-good r w .log .ready .members in omega (arith, m .long, m .few)
+
+  pub safe-most : r .log .safe .0 ≤ mostNumber
+  safe-most = let marks = whole-good r w .log .ready .marks in omega arith
+
+-- 13 and 14, as the code asks
+module _ (r : Record) (asked answer : Bool) where
+  by-ids : (question : List ℕ → Bool) → asked ≡ question (take (r .log .count - 0) (r .log .members)) → asked ≡ answer → question (ids (r .log)) ≡ answer
+  by-ids question e f = rw sub-zero at (sym e ∙ f)
+
+  pub ring-asked : (h : Header) → asked ≡ thisRing (r .log .ring .0) (take (r .log .count - 0) (r .log .members)) h → asked ≡ answer → thisRing (r .log .ring .0) (ids (r .log)) h ≡ answer
+  ring-asked h = by-ids (λ s. thisRing (r .log .ring .0) s h)
+
+  pub sender-asked : (id : ℕ) → asked ≡ isMember (take (r .log .count - 0) (r .log .members)) id → asked ≡ answer → isMember (ids (r .log)) id ≡ answer
+  sender-asked id = by-ids (λ s. isMember s id)
+
+  pub members-asked : (t : Token) → asked ≡ tokenMembers (take (r .log .count - 0) (r .log .members)) t → asked ≡ answer → tokenMembers (ids (r .log)) t ≡ answer
+  members-asked t = by-ids (λ s. tokenMembers s t)
+
+-- ---- 13 and 14, of a message
+
+module _ (r : Record) (m : Message) (content : List ℕ) where
+  pub message-other-ring : thisRing (current r .ring .0) (ids (current r)) (m .header) ≡ false → messageArrived r m content ≡ refused r OtherRing
+  unfolding messageArrived
+  message-other-ring f = rw f
+
+  module _ (this : thisRing (current r .ring .0) (ids (current r)) (m .header) ≡ true) where
+    pub message-not-member : isMember (ids (current r)) (m .sender) ≡ false → messageArrived r m content ≡ refused r NotMember
+    unfolding messageArrived
+    message-not-member f = rw (this, f)
+
+    pub message-passes : isMember (ids (current r)) (m .sender) ≡ true → messageArrived r m content ≡ messageHeard r m content
+    unfolding messageArrived
+    message-passes f = rw (this, f)
+
+  -- a message writes nothing for the cable
+  no-frames : messageArrived r m content .frames ≡ []
+  unfolding messageArrived messageHeard
+  no-frames =
+      asked (λ reply. reply .frames ≡ []) r (thisRing (current r .ring .0) (ids (current r)) (m .header)) OtherRing _ refl (λ this.
+      asked (λ reply. reply .frames ≡ []) r (isMember (ids (current r)) (m .sender)) NotMember _ refl (λ member. refl))
+
+  pub leaves-frames : (reply : Reply) (done : Done) (frames out out′ : List ℕ)
+      → reply ≡ messageArrived r m content
+      → (done ≡ doneOf (messageArrived r m content)) × (out′ ≡ followedBy (messageArrived r m content .deliveries) out)
+      → (done ≡ doneOf reply) × (frames ≡ followedBy (reply .frames) frames) × (out′ ≡ followedBy (reply .deliveries) out)
+  leaves-frames reply done frames out out′ e h =
+      let same : frames ≡ followedBy (messageArrived r m content .frames) frames = rw no-frames in
+      rw e (h .0, same, h .1)
+
+-- ---- 13 to 18, of a token
+
+module _ (r : Record) (t : Token) where
+  pub token-other-ring : thisRing (current r .ring .0) (ids (current r)) (t .header) ≡ false → tokenArrived r t ≡ refused r OtherRing
+  unfolding tokenArrived
+  token-other-ring f = rw f
+
+  module _ (this : thisRing (current r .ring .0) (ids (current r)) (t .header) ≡ true) where
+    pub token-not-member : tokenMembers (ids (current r)) t ≡ false → tokenArrived r t ≡ refused r NotMember
+    unfolding tokenArrived
+    token-not-member f = rw (this, f)
+
+    module _ (members : tokenMembers (ids (current r)) t ≡ true) where
+      pub token-elsewhere : (t .addressee ≡ r .own → ⊥) → tokenArrived r t ≡ refused r OtherAddressee
+      unfolding tokenArrived
+      token-elsewhere h = rw (this, members, ne-eqb (t .addressee) (r .own) h)
+
+      module _ (here : t .addressee ≡ r .own) where
+        pub token-old : t .number .0 ≤ r .turn .number .0 → tokenArrived r t ≡ refused r OldToken
+        unfolding tokenArrived
+        token-old h = rw (this, members, eq-eqb (t .addressee) (r .own) here, le-ltb (r .turn .number .0) (t .number .0) h)
+
+        module _ (newer : r .turn .number .0 < t .number .0) where
+          pub token-last : mostNumber ≤ t .number .0 → tokenArrived r t ≡ refused r LastToken
+          unfolding tokenArrived
+          token-last h =
+              rw (
+                this,
+                members,
+                eq-eqb (t .addressee) (r .own) here,
+                lt-ltb (r .turn .number .0) (t .number .0) newer,
+                le-ltb (t .number .0) mostNumber h,
+              )
+
+          module _ (not-last : t .number .0 < mostNumber) where
+            to-cover : tokenArrived r t ≡ asks r (coversHeld (current r) (t .highest .0)) BelowHeld (accepted (visit r t))
+            unfolding tokenArrived
+            to-cover =
+                rw (
+                  this,
+                  members,
+                  eq-eqb (t .addressee) (r .own) here,
+                  lt-ltb (r .turn .number .0) (t .number .0) newer,
+                  lt-ltb (t .number .0) mostNumber not-last,
+                )
+
+            pub token-below : coversHeld (current r) (t .highest .0) ≡ false → tokenArrived r t ≡ refused r BelowHeld
+            token-below f = rw f at to-cover
+
+            pub token-passes : coversHeld (current r) (t .highest .0) ≡ true → tokenArrived r t ≡ accepted (visit r t)
+            token-passes f = rw f at to-cover
+
+-- ---- what the reader says
+
+reads-message : (s : List ℕ) (reading : Reading) (m : Message) → ReadCase s reading → reading .answer ≡ IsMessage m → messageFollows m (contentOf s) ≡ true
+reads-message s reading m (unread why e) q = let z : _≡_ {A = ℕ} 0 1 = cc in absurd (omega arith)
+reads-message s reading m (message m′ e f) q = let same : m′ ≡ m = cc in rw same at f
+reads-message s reading m (token t e f) q = let z : _≡_ {A = ℕ} 0 1 = cc in absurd (omega arith)
+
+reads-token : (s : List ℕ) (reading : Reading) → ReadCase s reading → reading .answer ≡ IsToken → tokenFollows (reading .token) ≡ true
+reads-token s reading (unread why e) q = let z : _≡_ {A = ℕ} 0 1 = cc in absurd (omega arith)
+reads-token s reading (message m e f) q = let z : _≡_ {A = ℕ} 0 1 = cc in absurd (omega arith)
+reads-token s reading (token t e f) q = rw e f
+
+module _ (r : Record) (frame : List ℕ) (reading : Reading) (reads : reading ≡ readOf frame) where
+  pub arrived-unread : (why : Unread) (known : Refusal) → known ≡ readerRefusal why → reading .answer ≡ Unreadable why → frameArrived r frame (readOf frame) ≡ refused r known
+  arrived-unread why known e q = rw (← reads, q, e)
+
+  pub message-there : (m : Message) (content : List ℕ) → content ≡ contentOf frame → reading .answer ≡ IsMessage m → messageFollows m content ≡ true
+  message-there m content e q = rw e (reads-message frame reading m (rw reads (read-case frame)) q)
+
+  pub arrived-message : (m : Message) (content : List ℕ) → content ≡ contentOf frame → reading .answer ≡ IsMessage m → frameArrived r frame (readOf frame) ≡ messageArrived r m content
+  arrived-message m content e q = rw (← reads, q, e)
+
+  pub token-there : reading .answer ≡ IsToken → tokenFollows (reading .token) ≡ true
+  token-there q = reads-token frame reading (rw reads (read-case frame)) q
+
+  pub arrived-token : reading .answer ≡ IsToken → frameArrived r frame (readOf frame) ≡ tokenArrived r (reading .token)
+  arrived-token q = rw (← reads, q)
+
+-- ---- 1 and 2
+
+module _ (r : Record) (frame : List ℕ) (frames deliveries : ℕ) where
+  pub arrived-frameless : frames < mostFrames → arrived r frame frames deliveries ≡ refused r NoRoom
+  unfolding arrived
+  arrived-frameless h = rw (lt-leb mostFrames frames h)
+
+  module _ (room : mostFrames ≤ frames) where
+    pub arrived-roomless : deliveries < mostDeliveries → arrived r frame frames deliveries ≡ refused r NoRoom
+    unfolding arrived
+    arrived-roomless h = rw (le-leb mostFrames frames room, lt-leb mostDeliveries deliveries h)
+
+    module _ (enough : mostDeliveries ≤ deliveries) where
+      pub arrived-not-whole : whole r ≡ false → arrived r frame frames deliveries ≡ refused r NotWhole
+      unfolding arrived
+      arrived-not-whole f = rw (le-leb mostFrames frames room, le-leb mostDeliveries deliveries enough, f)
+
+      pub arrived-passes : whole r ≡ true → arrived r frame frames deliveries ≡ frameArrived r frame (readOf frame)
+      unfolding arrived
+      arrived-passes f = rw (le-leb mostFrames frames room, le-leb mostDeliveries deliveries enough, f)

@@ -1,0 +1,45 @@
+-- New messages are held one after another: what is left of the posts decides the whole.
+use Prim.Native.Nat.{ℕ, zero, suc, _+_, _-_, _<_, _≤_}
+use mathlib.Core.Path.{_≡_, sym, ap, _∙_}
+use native.Mathlib.Nat.{add-zero, sub-zero}
+use native.Mathlib.Omega.{arith}
+use lib.ListN.{take}
+use lib.Seq.{take-at}
+use Rattle.record.specs.Held.{stored}
+use Rattle.record.specs.Posts.{postAt, postsFrom, waiting}
+use Rattle.record.specs.declared.log.Log.{Log}
+use Rattle.record.specs.declared.posts.Posts.{Posts}
+use Rattle.record.proofs.PostLaws.{length-posts, posts-add}
+use Rattle.station.specs.Visit.{sentBy, withNews}
+
+-- the n oldest
+oldest : (p : Posts) (n : ℕ) → n ≤ p .count → take n (waiting p) ≡ postsFrom p 0 n
+oldest p n h =
+    let all : n + (p .count - n) ≡ p .count = omega arith in
+    let split = rw all at (posts-add p 0 n (p .count - n)) in
+    rw split (take-at (postsFrom p 0 n) (postsFrom p (0 + n) (p .count - n)) n (length-posts p 0 n))
+
+-- of the n oldest posts the first i are held
+pub record Holding (first : Log) (own highest : ℕ) (p : Posts) (n : ℕ) (l : Log) (i : ℕ) : Type 0 where
+  pub within : i ≤ n
+  pub rest : withNews l own (highest + i) (postsFrom p i (n - i)) ≡ withNews first own highest (postsFrom p 0 n)
+
+module _ (first : Log) (own highest : ℕ) (p : Posts) (n : ℕ) where
+  pub holding-starts : Holding first own highest p n first 0
+  holding-starts = record { within = omega arith; rest = rw (add-zero, sub-zero) }
+
+  module _ (l : Log) (i : ℕ) (so-far : Holding first own highest p n l i) where
+    pub holding-goes : (l′ : Log) → i < n → l′ ≡ stored l (highest + i + 1) (sentBy own (postAt p i)) → Holding first own highest p n l′ (i + 1)
+    unfolding withNews postsFrom
+    holding-goes l′ more e =
+        let left : n - i ≡ suc (n - (i + 1)) = omega arith in
+        let place : i + 1 ≡ suc i = omega arith in
+        let number : highest + i + 1 ≡ suc (highest + i) = omega arith in
+        let next : highest + suc i ≡ suc (highest + i) = omega arith in
+        record { within = omega arith; rest = rw (e, number, place, next) (rw (left, place) at (so-far .rest)) }
+
+    pub holding-ends : n ≤ i → n ≤ p .count → l ≡ withNews first own highest (take n (waiting p))
+    unfolding withNews postsFrom
+    holding-ends done few =
+        let left : n - i ≡ zero = omega arith in
+        rw (oldest p n few) (rw left at (so-far .rest))

@@ -1,0 +1,66 @@
+// Flow control: how many new messages a visit sends, and the round count it leaves. Steps 1, 3 and 8.
+ghost use mathlib.Core.Path.{_≡_};
+ghost use Prim.Native.Nat.{_+_, _-_, _≤_, min};
+ghost use lib.ListN.{length};
+ghost use Rattle.frames.specs.Number.{mostNumber};
+ghost use Rattle.frames.specs.Layout.{mostRound};
+ghost use Rattle.station.specs.Visit.{mostNew, mostInRound, repeats as Visit·repeats, newCount};
+ghost use Rattle.station.specs.EveryArrival.{visit};
+use frames::Token;
+use record::Record;
+
+// New messages of one visit. The paper's max_messages.
+const MOST_NEW: u32 = 8;
+
+// Broadcasts of one round. The paper's window_size.
+const MOST_IN_ROUND: u32 = 24;
+
+pub fn smaller(a: u32, b: u32) -> u32
+    ensures { λ r. ⌜ r ≡ min a b ⌝ }
+{
+    if a <= b { a } else { b }
+}
+
+// Not below 0.
+fn less(a: u32, b: u32) -> u32
+    ensures { λ r. ⌜ r ≡ a - b ⌝ }
+{
+    if a <= b { 0 } else { a - b }
+}
+
+// 1. The others' count.
+pub fn others(round: u16, broadcast: u8) -> u32
+    ensures { λ r. ⌜ r ≡ round - broadcast ⌝ }
+{
+    less(round as u32, broadcast as u32)
+}
+
+// 1. The allowance.
+fn allowance(others: u32) -> u32
+    ensures { λ r. ⌜ r ≡ min mostNew (mostInRound - others) ⌝ }
+{
+    smaller(MOST_NEW, less(MOST_IN_ROUND, others))
+}
+
+// 3. How many new messages. Ruled out: the posts alone decide; the repeats don't count.
+pub fn new_count(rec: Record, t: Token, repeats: u32) -> u32
+    requires { ⌜ (repeats ≡ length (Visit·repeats (visit rec t))) × (rec .log .safe .0 ≤ mostNumber) ⌝ }
+    ensures { λ r. ⌜ r ≡ newCount (visit rec t) ⌝ }
+{
+    let highest = t.highest.0;
+    let allowed = less(allowance(others(t.round, rec.turn.broadcast)), repeats);
+    let window = less(rec.log.safe.0 + record::MOST_HELD as u32, highest);
+    let numbers = less(frames::MOST_NUMBER, highest);
+    smaller(
+        allowed,
+        smaller(rec.posts.count as u32, smaller(window, numbers)),
+    )
+}
+
+// 8. The round count. Ruled out: one's own last count kept in; a count made up.
+pub fn round_after(others: u32, broadcasts: u32) -> u16
+    requires { ⌜ others + broadcasts ≤ 100000 ⌝ }
+    ensures { λ r. ⌜ r ≡ min (others + broadcasts) mostRound ⌝ }
+{
+    smaller(others + broadcasts, frames::MOST_ROUND as u32) as u16
+}

@@ -1,0 +1,116 @@
+// The frames of held messages, put one after another into a buffer. Each function answers the place after
+// what it put.
+ghost use mathlib.Core.Path.{_≡_};
+ghost use mathlib.Core.Bool.{true};
+ghost use mathlib.Core.List.{map};
+ghost use Prim.Native.Nat.{ℕ, _+_, _*_, _≤_, _<_};
+ghost use lib.ListN.{length};
+ghost use lib.Seq.{sets};
+ghost use Rattle.frames.specs.Number.{mostNumber};
+ghost use Rattle.frames.specs.Layout.{longestMessage};
+ghost use Rattle.frames.specs.Header.{headerFollows};
+ghost use Rattle.frames.specs.Message.{messageFollows, messageBytes};
+ghost use Rattle.record.specs.Size.{mostMembers};
+ghost use Rattle.record.specs.Held.{holds};
+ghost use Rattle.record.proofs.WholeFacts.{LogGood};
+ghost use Rattle.station.specs.Deliver.{ringHeader, frameOf, joined};
+ghost use Rattle.station.specs.Visit.{numbersAfter};
+ghost use Rattle.station.specs.EveryArrival.{Each};
+use frames::Header;
+use frames::Message;
+use frames::MessageNumber;
+use record::Log;
+
+// The header of this ring's frames.
+pub fn ring_header(l: Log) -> Header
+    requires { ⌜ l .count ≤ mostMembers ⌝ }
+    ensures { λ r. ⌜ r ≡ ringHeader l ⌝ }
+{
+    let members = l.members;
+    let n = l.count as usize;
+    let ring = l.ring;
+    Header {
+        ring,
+        representative: record::representative_of(&members[0..n]),
+    }
+}
+
+fn put_message(m: Message, content: &[u8], out: &mut [u8], at: usize) -> usize
+    requires { ⌜
+        (messageFollows m (now content) ≡ true)
+        × (at + length (messageBytes m (now content)) ≤ length (now out)) ⌝ }
+    ensures { λ r. ⌜
+        (r ≡ at + length (messageBytes m (now (content .entry))))
+        × (now (out .exit) ≡ sets (now (out .entry)) at (messageBytes m (now (content .entry)))) ⌝ }
+{
+    frames::write_message(m, content, &mut out[at..]);
+    at + frames::SHORTEST_MESSAGE + content.len()
+}
+
+// The frame of a number that is held.
+fn put_held(l: Log, n: MessageNumber, out: &mut [u8], at: usize) -> usize
+    requires { ⌜
+        LogGood l
+        × (headerFollows (ringHeader l) ≡ true)
+        × (holds l (n .0) ≡ true)
+        × (at + longestMessage ≤ length (now out)) ⌝ }
+    ensures { λ r. ⌜
+        (r ≡ at + length (frameOf l (n .0)))
+        × (now (out .exit) ≡ sets (now (out .entry)) at (frameOf l (n .0))) ⌝ }
+{
+    let senders = l.held.senders;
+    let services = l.held.services;
+    let lengths = l.held.lengths;
+    let contents = l.held.contents;
+    let place = n.0 as usize % record::MOST_HELD;
+    let from = frames::MOST_CONTENT * place;
+    let end = from + lengths[place] as usize;
+    let m = Message {
+        header: ring_header(l),
+        sender: senders[place],
+        number: n,
+        service: services[place],
+    };
+    put_message(m, &contents[from..end], out, at)
+}
+
+// The frames of numbers that are held, in their order.
+pub fn put_each(l: Log, numbers: &[u32], out: &mut [u8], at: usize) -> usize
+    requires { ⌜
+        LogGood l
+        × (headerFollows (ringHeader l) ≡ true)
+        × Each (λ n. holds l n ≡ true) (now numbers)
+        × (at + longestMessage * length (now numbers) ≤ length (now out)) ⌝ }
+    ensures { λ r. ⌜
+        (r ≡ at + length (joined (map (frameOf l) (now (numbers .entry)))))
+        × (now (out .exit) ≡ sets (now (out .entry)) at (joined (map (frameOf l) (now (numbers .entry))))) ⌝ }
+{
+    let mut at = at;
+    let mut i = 0;
+    while i < numbers.len() {
+        at = put_held(l, MessageNumber(numbers[i]), out, at);
+        i += 1;
+    }
+    at
+}
+
+// The frames of the n numbers after one, all of them held.
+pub fn put_run(l: Log, last: MessageNumber, n: u32, out: &mut [u8], at: usize) -> usize
+    requires { ⌜
+        LogGood l
+        × (headerFollows (ringHeader l) ≡ true)
+        × ((k : ℕ) → last .0 < k → k ≤ last .0 + n → holds l k ≡ true)
+        × (last .0 + n ≤ mostNumber)
+        × (at + longestMessage * n ≤ length (now out)) ⌝ }
+    ensures { λ r. ⌜
+        (r ≡ at + length (joined (map (frameOf l) (numbersAfter (last .0) n))))
+        × (now (out .exit) ≡ sets (now (out .entry)) at (joined (map (frameOf l) (numbersAfter (last .0) n)))) ⌝ }
+{
+    let mut at = at;
+    let mut i = 0;
+    while i < n {
+        at = put_held(l, MessageNumber(last.0 + i + 1), out, at);
+        i += 1;
+    }
+    at
+}
