@@ -1,6 +1,6 @@
 -- A loop that tests each element: what is left decides the whole.
 use Prim.Native.Nat.{ℕ, zero, suc, _+_, _-_, _<_, _≤_}
-use mathlib.Core.Path.{_≡_, refl}
+use mathlib.Core.Path.{_≡_, refl, _∙_}
 use mathlib.Core.List.{List, [], _∷_}
 use mathlib.Core.Bool.{Bool, true, false, _&&_}
 use borrow.Author.Tests.{leb-true}
@@ -38,6 +38,36 @@ module _ (test : ℕ → List ℕ → Bool) (s : List ℕ) (i : ℕ) (so-far : S
   pub scan-ends : length s ≤ i → true ≡ every test s
   unfolding every
   scan-ends h = rw (drop-of-length-le s h) at (so-far .rest)
+
+-- ---- a loop with no way out: what was found so far, and what is left
+
+pub record Gathering (test : ℕ → List ℕ → Bool) (s : List ℕ) (good : Bool) (i : ℕ) : Type 0 where
+  pub within : i ≤ length s
+  pub rest : good && every test (drop i s) ≡ every test s
+
+pub gather-starts : (test : ℕ → List ℕ → Bool) (s : List ℕ) → Gathering test s true 0
+gather-starts test s = record { within = omega arith; rest = refl }
+
+regrouped : (a b c : Bool) → (a && b) && c ≡ a && (b && c)
+regrouped true b c = refl
+regrouped false b c = refl
+
+all-found : (good : Bool) → good ≡ good && true
+all-found true = refl
+all-found false = refl
+
+module _ (test : ℕ → List ℕ → Bool) (s : List ℕ) (good : Bool) (i : ℕ) (so-far : Gathering test s good i) where
+  pub gather-goes : i < length s → Gathering test s (good && test (getD s i 0) (drop (i + 1) s)) (i + 1)
+  unfolding every
+  gather-goes h =
+      record {
+        within = omega arith;
+        rest = regrouped good (test (getD s i 0) (drop (i + 1) s)) (every test (drop (i + 1) s)) ∙ rw (add-one i) (rw (drop-cons s i 0 h) at (so-far .rest));
+      }
+
+  pub gather-ends : length s ≤ i → good ≡ every test s
+  unfolding every
+  gather-ends h = all-found good ∙ rw (drop-of-length-le s h) at (so-far .rest)
 
 -- a part to the end, as the code spells it
 pub to-end : (s : List ℕ) (i : ℕ) → take (length s - i) (drop i s) ≡ drop i s

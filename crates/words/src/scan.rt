@@ -1,21 +1,20 @@
 // Tests of a whole slice, at each width that the crates above need. Ruled out: the last element not
-// looked at; a bound itself refused.
+// looked at; a bound itself refused. A test of ranges looks at every element, with no way out of the loop,
+// so that the compiler can test many at once.
 ghost use mathlib.Core.Path.{_≡_};
 ghost use Rattle.words.specs.Scan.{allWithin, allZero, lacks, distinct};
 
 pub fn all_within_u8(s: &[u8], low: u8, high: u8) -> bool
     ensures { λ r. ⌜ r ≡ allWithin low high (now (s .entry)) ⌝ }
 {
+    let mut good = true;
     let mut i = 0;
     while i < s.len() {
         let x = s[i];
-        let good = (low <= x) & (x <= high);
-        if !good {
-            return false;
-        }
+        good = good & ((low <= x) & (x <= high));
         i += 1;
     }
-    true
+    good
 }
 
 pub fn all_zero_u8(s: &[u8]) -> bool
@@ -27,16 +26,14 @@ pub fn all_zero_u8(s: &[u8]) -> bool
 pub fn all_within_u16(s: &[u16], low: u16, high: u16) -> bool
     ensures { λ r. ⌜ r ≡ allWithin low high (now (s .entry)) ⌝ }
 {
+    let mut good = true;
     let mut i = 0;
     while i < s.len() {
         let x = s[i];
-        let good = (low <= x) & (x <= high);
-        if !good {
-            return false;
-        }
+        good = good & ((low <= x) & (x <= high));
         i += 1;
     }
-    true
+    good
 }
 
 pub fn all_zero_u16(s: &[u16]) -> bool
@@ -48,16 +45,14 @@ pub fn all_zero_u16(s: &[u16]) -> bool
 pub fn all_within_u32(s: &[u32], low: u32, high: u32) -> bool
     ensures { λ r. ⌜ r ≡ allWithin low high (now (s .entry)) ⌝ }
 {
+    let mut good = true;
     let mut i = 0;
     while i < s.len() {
         let x = s[i];
-        let good = (low <= x) & (x <= high);
-        if !good {
-            return false;
-        }
+        good = good & ((low <= x) & (x <= high));
         i += 1;
     }
-    true
+    good
 }
 
 pub fn all_zero_u32(s: &[u32]) -> bool
