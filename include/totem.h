@@ -12,7 +12,8 @@
  * - C converts a number to its parameter's type before the call sees it: 65536 as a service arrives as 0.
  * - A refusal alters no lent byte, and its counts are 0. Bytes past an output count are never altered.
  * - Buffers that overlap are outside what is proved: lend separate ones.
- * - A call needs up to 16 KB of stack; what was measured (host/test/stack.c) is below 15 KB.
+ * - Arrival needs up to 40 KB of stack, every other call up to 16 KB; what was measured (host/test/stack.c)
+ *   is below 38 KB and 15 KB.
  * - The library keeps no state of its own and has no globals; all it knows is in the lent record. So
  *   different stations may be used from different threads. One station takes one call at a time.
  */
@@ -29,7 +30,7 @@ extern "C" {
 /* Lengths in bytes. */
 #define TOTEM_STATION_LEN 3425     /* a station's record */
 #define TOTEM_FRAMES_LEN 1470      /* the least buffer for frames */
-#define TOTEM_DELIVERIES_LEN 2752  /* the least buffer for deliveries; no call here asks for one */
+#define TOTEM_DELIVERIES_LEN 2752  /* the least buffer for deliveries */
 #define TOTEM_TOKEN_LEN 30         /* a ring's first token */
 #define TOTEM_MOST_CONTENT 64      /* a post's content */
 
@@ -43,22 +44,35 @@ extern "C" {
 #define TOTEM_AGREED 0  /* delivered in the ring's order */
 #define TOTEM_SAFE 1    /* the same, and only once every member is known to have it */
 
-/* Outcomes; 3 to 6 are kept for arrival. */
-#define TOTEM_FOUNDED 1  /* by totem_found */
-#define TOTEM_POSTED 2   /* by totem_post */
-#define TOTEM_RESENT 7   /* by totem_resend */
+/* Outcomes. */
+#define TOTEM_FOUNDED 1   /* by totem_found */
+#define TOTEM_POSTED 2    /* by totem_post */
+#define TOTEM_KEPT 3      /* by totem_arrive: a message that is new here; it is held */
+#define TOTEM_HAD 4       /* by totem_arrive: a message that was received before; the first copy stays */
+#define TOTEM_AHEAD 5     /* by totem_arrive: a message above safe mark + 32; it is not held */
+#define TOTEM_ACCEPTED 6  /* by totem_arrive: a token; the next one is written */
+#define TOTEM_RESENT 7    /* by totem_resend */
 
 /* Refusals: the number of the first question that is answered 'no'. */
-#define TOTEM_NO_ROOM 1        /* a lent output buffer is too small */
-#define TOTEM_NOT_WHOLE 2      /* the record is not whole, or its length is not TOTEM_STATION_LEN */
-#define TOTEM_MEMBER_COUNT 3   /* not 2 to 8 members */
-#define TOTEM_BAD_IDS 4        /* an id is 0 or stands twice, or the lowest is not first */
-#define TOTEM_NOT_AMONG 5      /* the own id is not among the members */
-#define TOTEM_BAD_RING 6       /* the ring number is not 1 to 2,000,000,000 */
-#define TOTEM_LONG_CONTENT 7   /* the content is over 64 bytes */
-#define TOTEM_OTHER_SERVICE 8  /* the service is not 0 or 1 */
-#define TOTEM_POSTS_FULL 9     /* 16 posts wait */
-#define TOTEM_NO_LEAVE 19      /* the token may not be resent */
+#define TOTEM_NO_ROOM 1           /* a lent output buffer is too small */
+#define TOTEM_NOT_WHOLE 2         /* the record is not whole, or its length is not TOTEM_STATION_LEN */
+#define TOTEM_MEMBER_COUNT 3      /* not 2 to 8 members */
+#define TOTEM_BAD_IDS 4           /* an id is 0 or stands twice, or the lowest is not first */
+#define TOTEM_NOT_AMONG 5         /* the own id is not among the members */
+#define TOTEM_BAD_RING 6          /* the ring number is not 1 to 2,000,000,000 */
+#define TOTEM_LONG_CONTENT 7      /* the content is over 64 bytes */
+#define TOTEM_OTHER_SERVICE 8     /* the service is not 0 or 1 */
+#define TOTEM_POSTS_FULL 9        /* 16 posts wait */
+#define TOTEM_WRONG_LENGTH 10     /* the frame has under 10 bytes, or its length field is not exact */
+#define TOTEM_OTHER_KIND 11       /* its kind is not 1 (message) or 2 (token) */
+#define TOTEM_MALFORMED 12        /* something else in it does not follow the layout */
+#define TOTEM_OTHER_RING 13       /* its ring number or representative is not this ring's */
+#define TOTEM_NOT_MEMBER 14       /* an id in it is not a member's */
+#define TOTEM_OTHER_ADDRESSEE 15  /* the token is for another station */
+#define TOTEM_OLD_TOKEN 16        /* its number is not above the last forwarded: a token repeated */
+#define TOTEM_LAST_TOKEN 17       /* its number is 2,000,000,000: no number is left for the next one */
+#define TOTEM_BELOW_HELD 18       /* its highest message number is below one that this station has */
+#define TOTEM_NO_LEAVE 19         /* the token may not be resent */
 
 /*
  * What each call answers. The notice 'deaf' says that the station itself has kept aru back for more than 10
@@ -68,8 +82,8 @@ typedef struct {
     uint16_t refusal;     /* 0, or the number of the question that is answered 'no' */
     uint16_t outcome;     /* 0 with a refusal, else what happened */
     uint16_t frames;      /* bytes written for the cable */
-    uint16_t deliveries;  /* bytes delivered; 0 from every call here */
-    uint16_t deaf;        /* the id in the notice 'deaf', or 0; 0 from every call here */
+    uint16_t deliveries;  /* bytes delivered; only an arrival delivers */
+    uint16_t deaf;        /* the id in the notice 'deaf', or 0; only an accepted token brings it */
 } totem_answer;
 
 /*
@@ -110,6 +124,60 @@ totem_answer totem_found(uint8_t *station, size_t station_len, const uint8_t *me
  */
 totem_answer totem_post(uint8_t *station, size_t station_len, uint16_t service, const uint8_t *content,
                         size_t content_len);
+
+/*
+ * Arrival: a frame from the cable, a message or a token.
+ *
+ * Asks 1, 2, 10, 11, 12, 13, 14; of a token also 15, 16, 17, 18.
+ * 1: frames has at least TOTEM_FRAMES_LEN bytes, deliveries at least TOTEM_DELIVERIES_LEN; for a message
+ *    too. What stands in them does not matter.
+ * 2: station has exactly TOTEM_STATION_LEN bytes and is whole.
+ * 10: frame has at least 10 bytes, and its first two say how many come after them.
+ * 11: its kind is 1, a message, or 2, a token.
+ * 12: all else in it follows the layout of its kind.
+ * 13: its ring number and its representative are this ring's.
+ * 14: every id in it is a member's: a message's sender, a token's addressee and its blocker, where it has
+ *     one.
+ * 15: the token is addressed to this station.
+ * 16: its number is above that of the token forwarded last.
+ * 17: its number is below 2,000,000,000.
+ * 18: its highest message number is at least the level (everything from 1 to it is received here) and every
+ *     number held.
+ *
+ * Answers, to a message, and then frames is 0:
+ * - TOTEM_KEPT: it is new here, and it is held until all members are known to have it;
+ * - TOTEM_HAD: it was received before, or is an own one that comes back; the first copy stays;
+ * - TOTEM_AHEAD: there is no place for it yet; the ring sends it again once the token has asked for it.
+ * Each of the three ends the leave to resend: a message on the cable is taken as a sign that the token went
+ * on.
+ * Answers, to a token:
+ * - TOTEM_ACCEPTED: the station has taken its turn, and the token may be resent from now on. deaf is 0, or
+ *   the own id with the notice 'deaf'; the token goes on all the same.
+ *
+ * The first bytes of frames, as many as the answer's frames says, are frames for the cable, one after
+ * another, each beginning with its own 2-byte length: messages repeated because the token asked for them,
+ * new messages (the oldest posts, which wait no longer), and last the token, 30 to 94 bytes, for the next
+ * member. The first bytes of deliveries, as many as the answer's deliveries says, are the messages delivered
+ * by this call, in the ring's order, as the frames of kind 1 that were on the cable. Either kind of frame may
+ * deliver, whatever the outcome is.
+ *
+ * What a host needs to find in a frame, little-endian: at byte 0 the length (2 bytes, counting those after
+ * it), at byte 2 the kind (2); of a message, at 10 the sender (2), at 12 its number (4), at 20 the service
+ * (2), from 22 to the end the content; of a token, at 10 the addressee (2).
+ *
+ * What a host does with the answer: it hands the deliveries on to its operators in the order in which they
+ * stand; it puts every frame of frames on the cable in that order, the messages for all other members, the
+ * token for its addressee. A frame that is refused with 10 to 18 is passed over; 15 and 16 are everyday
+ * answers on a cable that all hear and that may repeat. When the cable has been quiet for a while after a
+ * token was forwarded, the token may be lost: totem_resend writes it again, as often as the host likes, until
+ * a message ends the leave or another token takes its place.
+ *
+ * A whole record stays whole.
+ *
+ * Never touched: frame, the bytes past both counts, everything on a refusal.
+ */
+totem_answer totem_arrive(uint8_t *station, size_t station_len, const uint8_t *frame, size_t frame_len,
+                          uint8_t *frames, size_t frames_len, uint8_t *deliveries, size_t deliveries_len);
 
 /*
  * Resending: the token that this station forwarded last is written out again, if it may be.

@@ -79,6 +79,28 @@ void try_post(const char *name, struct bytes station, uint16_t service, struct b
     finish();
 }
 
+void try_arrive(const char *name, struct bytes station, struct bytes frame, struct bytes frames,
+                struct bytes deliveries, const struct reply *want)
+{
+    bool good = want->answer.refusal == 0;
+
+    begin(name);
+    for (int placing = 0; placing < PLACINGS; placing++) {
+        uint8_t *s = lend(SLOT_STATION, placing, station, false);
+        uint8_t *a = lend(SLOT_INPUT, placing, frame, false);
+        uint8_t *f = lend(SLOT_OUTPUT, placing, frames, true);
+        uint8_t *d = lend(SLOT_DELIVERIES, placing, deliveries, true);
+
+        answered(totem_arrive(s, station.size, a, frame.size, f, frames.size, d, deliveries.size),
+                 want->answer);
+        left(SLOT_STATION, "record", want->record, good ? TOTEM_STATION_LEN : 0);
+        left(SLOT_INPUT, "frame", NULL, 0);
+        left(SLOT_OUTPUT, "buffer for frames", want->frames, want->answer.frames);
+        left(SLOT_DELIVERIES, "buffer for deliveries", want->deliveries, want->answer.deliveries);
+    }
+    finish();
+}
+
 void try_resend(const char *name, struct bytes station, struct bytes frames, totem_answer want,
                 const uint8_t *written)
 {

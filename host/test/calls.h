@@ -1,10 +1,11 @@
 /*
- * The three calls, each tried in every placing of its buffers. Every try checks the answer, every lent byte
+ * The four calls, each tried in every placing of its buffers. Every try checks the answer, every lent byte
  * (those written, those past the counts, the inputs, all of them on a refusal) and every guard byte.
  */
 #ifndef HOST_CALLS_H
 #define HOST_CALLS_H
 
+#include "expected_arrival.h"
 #include "lent.h"
 #include "totem.h"
 
@@ -14,6 +15,10 @@ void try_found(const char *name, struct bytes station, struct bytes members, uin
 
 void try_post(const char *name, struct bytes station, uint16_t service, struct bytes content,
               totem_answer want, const uint8_t *record);
+
+/* `frames` and `deliveries`: the buffers lent */
+void try_arrive(const char *name, struct bytes station, struct bytes frame, struct bytes frames,
+                struct bytes deliveries, const struct reply *want);
 
 void try_resend(const char *name, struct bytes station, struct bytes frames, totem_answer want,
                 const uint8_t *written);

@@ -50,7 +50,7 @@ enum { MOST_BROADCAST = 16, MOST_ROUND = 128 };
 #define POST_LENGTH(place) (POST_LENGTHS + (place))
 #define POST_CONTENT(place) (POST_CONTENTS + CONTENT_ROOM * (place))
 
-/* where each field of a token stands, from its frame's first byte */
+/* where each field of a token stands, from its frame's first byte; the first four are in every frame */
 enum {
     T_LENGTH = 0,
     T_KIND = 2,
@@ -66,17 +66,23 @@ enum {
     T_REQUESTS = 30
 };
 
-/* the same in a record */
+/* the same of a message */
+enum { M_SENDER = 10, M_NUMBER = 12, M_CONFIGURATION = 16, M_SERVICE = 20, M_CONTENT = 22 };
+
+/* the token that may be resent, in a record */
 #define T(field) (TOKEN + (field))
 #define REQUEST(place) T(T_REQUESTS + 4 * (place))
 
-/* sizes in bytes: a token without requests, the longest token, and the least buffer for frames */
+/* sizes in bytes: of frames, the longest ones, and the least buffers for frames and for deliveries */
 enum {
     CONTENT_ROOM = 64,
-    MESSAGE_ROOM = 22 + CONTENT_ROOM,
+    HEADER_SIZE = 10,
+    MESSAGE_LEAST = M_CONTENT,
+    MESSAGE_ROOM = M_CONTENT + CONTENT_ROOM,
     TOKEN_LEAST = T_REQUESTS,
     TOKEN_ROOM = T_REQUESTS + 4 * REQUEST_PLACES,
-    FRAMES_ROOM = MOST_BROADCAST * MESSAGE_ROOM + TOKEN_ROOM
+    FRAMES_ROOM = MOST_BROADCAST * MESSAGE_ROOM + TOKEN_ROOM,
+    DELIVERIES_ROOM = HELD_PLACES * MESSAGE_ROOM
 };
 
 #endif

@@ -16,7 +16,7 @@ struct bytes {
     size_t size;
 };
 
-enum slot { SLOT_STATION, SLOT_INPUT, SLOT_OUTPUT, SLOTS };
+enum slot { SLOT_STATION, SLOT_INPUT, SLOT_OUTPUT, SLOT_DELIVERIES, SLOTS };
 enum { PLACINGS = 3 };
 
 /* most bytes of a buffer */

@@ -67,8 +67,7 @@ struct station random_station(void)
     return s;
 }
 
-/* a value near what the field has, or near an edge of its range */
-static uint32_t near_edge(uint32_t value)
+uint32_t near_edge(uint32_t value)
 {
     static const uint32_t edges[] = {0, 1, LEAST_MEMBERS, MEMBER_PLACES, POST_PLACES, TOKEN_LEAST,
                                      CONTENT_ROOM, TOKEN_ROOM, MOST_ROUND, 255, 65535, LIMIT - 1, LIMIT,

@@ -4,9 +4,39 @@
 
 #include "calls.h"
 #include "expected.h"
+#include "expected_arrival.h"
+#include "look.h"
 #include "tally.h"
 #include "whole.h"
 #include "words.h"
+
+/* the token that comes next at a whole record, with all that could be held known to the ring */
+static size_t fitting_token(const uint8_t *r, uint8_t out[TOKEN_ROOM])
+{
+    struct token t = first_token(get(r + RING, 4), (uint16_t)get(r + MEMBER(0), 2));
+
+    t.addressee = (uint16_t)get(r + OWN, 2);
+    t.number = get(r + TOKEN_NUMBER, 4) + 1;
+    t.highest = lesser(get(r + SAFE, 4) + HELD_PLACES, LIMIT);
+    t.aru = get(r + LEVEL, 4);
+    t.blocker = t.aru == t.highest ? 0 : t.addressee;
+    t.round = 20;
+    t.count = 1;
+    t.requests[0] = lesser(get(r + SAFE, 4) + 1, LIMIT);
+    return token_bytes(&t, out);
+}
+
+static void try_token(const char *name, struct bytes record, size_t room)
+{
+    uint8_t frame[TOKEN_ROOM];
+    struct bytes token = pattern(TOKEN_LEAST);
+    struct reply want;
+
+    if (record.size >= RECORD_END)
+        token = bytes_of(frame, fitting_token(record.at, frame));
+    expect_arrival(record, token, room, DELIVERIES_ROOM, &want);
+    try_arrive(name, record, token, pattern(room), pattern(DELIVERIES_ROOM), &want);
+}
 
 bool try_record(const char *name, struct bytes record, uint16_t service, struct bytes content, size_t room)
 {
@@ -21,6 +51,7 @@ bool try_record(const char *name, struct bytes record, uint16_t service, struct 
     } else {
         try_post(name, record, service, content, refused(post), NULL);
     }
+    try_token(name, record, room);
     if (resend == 0)
         try_resend(name, record, pattern(room), resent(record.at[TOKEN_SIZE]), record.at + TOKEN);
     else
@@ -28,16 +59,21 @@ bool try_record(const char *name, struct bytes record, uint16_t service, struct 
     return post != 2;
 }
 
+void make_edits(const struct edit edits[MOST_EDITS], uint8_t *bytes)
+{
+    for (const struct edit *e = edits; e < edits + MOST_EDITS && e->width != 0; e++)
+        if (e->width <= 4)
+            put(bytes + e->at, e->width, e->value);
+        else
+            memset(bytes + e->at, (int)e->value, e->width);
+}
+
 static void make(const struct record_case *c, uint8_t out[RECORD_END])
 {
     struct station s = sample(c->from);
 
     station_bytes(&s, out);
-    for (const struct edit *e = c->edits; e < c->edits + MOST_EDITS && e->width != 0; e++)
-        if (e->width <= 4)
-            put(out + e->at, e->width, e->value);
-        else
-            memset(out + e->at, (int)e->value, e->width);
+    make_edits(c->edits, out);
 }
 
 void try_records(const struct record_case *cases, size_t count)

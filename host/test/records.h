@@ -1,4 +1,4 @@
-/* Records tried by both calls that take one, and records made from a sample by changing some of its bytes. */
+/* Records tried by all calls that take one, and records made from a sample by changing some of its bytes. */
 #ifndef HOST_RECORDS_H
 #define HOST_RECORDS_H
 
@@ -10,8 +10,9 @@
 #include "samples.h"
 
 /*
- * Posting that content and resending into `room` bytes. The test's own questions (expected.c) say what each
- * call must answer; is the record whole by them?
+ * Posting that content, the arrival of a token that fits the record, and resending, the last two with `room`
+ * bytes for frames. The test's own questions and steps (expected.c, expected_arrival.c) say what each call
+ * must answer and leave; is the record whole by them?
  */
 bool try_record(const char *name, struct bytes record, uint16_t service, struct bytes content, size_t room);
 
@@ -26,6 +27,8 @@ struct edit {
 #define SIZE(n) {TOKEN_SIZE, 1, n}, {T(T_LENGTH), 2, (n)-2}
 
 enum { MOST_EDITS = 6 };
+
+void make_edits(const struct edit edits[MOST_EDITS], uint8_t *bytes);
 
 struct record_case {
     const char *name;

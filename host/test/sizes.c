@@ -13,17 +13,24 @@ static void numbers(void)
     tally_case("the header's numbers");
     check(TOTEM_STATION_LEN == 3425 && RECORD_END == 3425, "the record's length");
     check(TOTEM_FRAMES_LEN == 1470 && FRAMES_ROOM == 1470, "the buffer for frames: 16 messages and a token");
-    check(TOTEM_DELIVERIES_LEN == 2752 && HELD_PLACES * MESSAGE_ROOM == 2752,
+    check(TOTEM_DELIVERIES_LEN == 2752 && DELIVERIES_ROOM == 2752,
           "the buffer for deliveries: 32 messages");
     check(TOKEN_LEAST == 30 && TOKEN_ROOM == 94, "the sizes of a token");
+    check(MESSAGE_LEAST == 22 && MESSAGE_ROOM == 86, "the sizes of a message");
     check(TOTEM_TOKEN_LEN == 30 && TOTEM_MOST_CONTENT == 64 && TOTEM_MOST_NUMBER == 2000000000, "sizes");
     check(TOTEM_LEAST_MEMBERS == 2 && TOTEM_MOST_MEMBERS == 8 && TOTEM_MOST_POSTS == 16, "counts");
     check(TOTEM_AGREED == 0 && TOTEM_SAFE == 1, "services");
-    check(TOTEM_FOUNDED == 1 && TOTEM_POSTED == 2 && TOTEM_RESENT == 7, "outcomes");
+    check(TOTEM_FOUNDED == 1 && TOTEM_POSTED == 2 && TOTEM_KEPT == 3 && TOTEM_HAD == 4 && TOTEM_AHEAD == 5
+              && TOTEM_ACCEPTED == 6 && TOTEM_RESENT == 7,
+          "outcomes");
     check(TOTEM_NO_ROOM == 1 && TOTEM_NOT_WHOLE == 2 && TOTEM_MEMBER_COUNT == 3 && TOTEM_BAD_IDS == 4
               && TOTEM_NOT_AMONG == 5 && TOTEM_BAD_RING == 6 && TOTEM_LONG_CONTENT == 7
               && TOTEM_OTHER_SERVICE == 8 && TOTEM_POSTS_FULL == 9 && TOTEM_NO_LEAVE == 19,
           "refusals");
+    check(TOTEM_WRONG_LENGTH == 10 && TOTEM_OTHER_KIND == 11 && TOTEM_MALFORMED == 12
+              && TOTEM_OTHER_RING == 13 && TOTEM_NOT_MEMBER == 14 && TOTEM_OTHER_ADDRESSEE == 15
+              && TOTEM_OLD_TOKEN == 16 && TOTEM_LAST_TOKEN == 17 && TOTEM_BELOW_HELD == 18,
+          "refusals of a frame");
     check(sizeof(totem_answer) == 10 && offsetof(totem_answer, refusal) == 0
               && offsetof(totem_answer, outcome) == 2 && offsetof(totem_answer, frames) == 4
               && offsetof(totem_answer, deliveries) == 6 && offsetof(totem_answer, deaf) == 8,

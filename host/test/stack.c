@@ -4,15 +4,23 @@
 #include <stdio.h>
 #include <string.h>
 
+#include "chance.h"
+#include "random_frame.h"
+#include "random_station.h"
 #include "samples.h"
 #include "tally.h"
 #include "tests.h"
 #include "totem.h"
 
-enum { STACK_ROOM = 256 * 1024, MOST_STACK = 16 * 1024, PAINT = 0xA5 };
+enum { STACK_ROOM = 256 * 1024, PAINT = 0xA5 };
+
+/* what include/totem.h says */
+enum { MOST_FOR_ARRIVAL = 40 * 1024, MOST_FOR_OTHERS = 16 * 1024 };
 
 static _Alignas(4096) uint8_t stack[STACK_ROOM];
-static uint8_t record[TOTEM_STATION_LEN], frames[TOTEM_FRAMES_LEN];
+static uint8_t record[TOTEM_STATION_LEN], frames[TOTEM_FRAMES_LEN], deliveries[TOTEM_DELIVERIES_LEN];
+static uint8_t frame[FRAME_MOST];
+static size_t frame_size;
 static uint16_t outcome;
 static const uint8_t *began; /* where the stack of the call begins, downwards */
 
@@ -32,6 +40,15 @@ static void *post(void *unused)
     return unused;
 }
 
+static void *arrive(void *unused)
+{
+    began = __builtin_frame_address(0);
+    outcome = totem_arrive(record, sizeof record, frame, frame_size, frames, sizeof frames, deliveries,
+                           sizeof deliveries)
+                  .outcome;
+    return unused;
+}
+
 static void *resend(void *unused)
 {
     began = __builtin_frame_address(0);
@@ -39,35 +56,92 @@ static void *resend(void *unused)
     return unused;
 }
 
-static void measure(const char *name, void *(*call)(void *), uint16_t want)
+/* how much of the painted stack the call takes, or 0 where no thread can be made */
+static long taken(void *(*call)(void *))
 {
-    struct station s = sample(LONG);
     const uint8_t *lowest = stack;
     pthread_attr_t attributes;
     pthread_t thread;
+    bool ran = false;
 
-    tally_case(name);
-    station_bytes(&s, record);
     memset(stack, PAINT, STACK_ROOM);
-    outcome = 0;
     pthread_attr_init(&attributes);
     if (pthread_attr_setstack(&attributes, stack, STACK_ROOM) == 0
         && pthread_create(&thread, &attributes, call, NULL) == 0)
-        pthread_join(thread, NULL);
+        ran = pthread_join(thread, NULL) == 0;
     pthread_attr_destroy(&attributes);
-    check(outcome == want, "outcome %u, expected %u", outcome, want);
-    if (outcome != want)
-        return;
+    if (!ran)
+        return 0;
     while (*lowest == PAINT)
         lowest++;
-    check(began - lowest <= MOST_STACK, "%td bytes of stack", began - lowest);
-    printf("host: %s takes %td bytes of stack\n", name, began - lowest);
+    return (long)(began - lowest);
+}
+
+/* at the rich record with the longest token */
+static void measure(const char *name, void *(*call)(void *), uint16_t want, long most)
+{
+    struct station s = sample(LONG);
+    long bytes;
+
+    tally_case(name);
+    station_bytes(&s, record);
+    outcome = 0;
+    bytes = taken(call);
+    check(outcome == want, "outcome %u, expected %u", outcome, want);
+    check(0 < bytes && bytes <= most, "%ld bytes of stack", bytes);
+    printf("host: %s takes %ld bytes of stack\n", name, bytes);
+}
+
+static void arriving_message(uint32_t number)
+{
+    struct station s = sample(LONG);
+    struct held m = {number, 3, 0, some_content(CONTENT_ROOM, number)};
+
+    frame_size = message_bytes(&s, &m, frame);
+}
+
+/* it asks for all that is held and for more */
+static void arriving_token(void)
+{
+    const struct token t = {4, 3, 7, 20, 72, 45, 9, 10, 16,
+                            {41, 42, 43, 44, 45, 47, 50, 1, 2, 3, 46, 48, 49, 51, 52, 53}};
+
+    frame_size = token_bytes(&t, frame);
+}
+
+/* the most that any of these takes */
+static void measure_random(unsigned count)
+{
+    long most = 0;
+
+    tally_case("random arrivals");
+    chance_start(CHANCE_SEED);
+    for (unsigned i = 0; i < count; i++) {
+        struct station s = random_station();
+        long bytes;
+
+        station_bytes(&s, record);
+        frame_size = random_frame(&s, frame);
+        bytes = taken(arrive);
+        check(0 < bytes && bytes <= MOST_FOR_ARRIVAL, "%ld bytes of stack", bytes);
+        most = bytes > most ? bytes : most;
+    }
+    printf("host: random arrivals take %ld bytes of stack at the most\n", most);
 }
 
 void test_stack(void)
 {
     tally_group("stack");
-    measure("founding", found, TOTEM_FOUNDED);
-    measure("posting", post, TOTEM_POSTED);
-    measure("resending", resend, TOTEM_RESENT);
+    measure("founding", found, TOTEM_FOUNDED, MOST_FOR_OTHERS);
+    measure("posting", post, TOTEM_POSTED, MOST_FOR_OTHERS);
+    measure("resending", resend, TOTEM_RESENT, MOST_FOR_OTHERS);
+    arriving_message(46);
+    measure("a message kept", arrive, TOTEM_KEPT, MOST_FOR_ARRIVAL);
+    arriving_message(41);
+    measure("a message had", arrive, TOTEM_HAD, MOST_FOR_ARRIVAL);
+    arriving_message(73);
+    measure("a message ahead", arrive, TOTEM_AHEAD, MOST_FOR_ARRIVAL);
+    arriving_token();
+    measure("a token accepted", arrive, TOTEM_ACCEPTED, MOST_FOR_ARRIVAL);
+    measure_random(1000);
 }

@@ -74,14 +74,30 @@ static uint8_t *bytes(uint8_t *at, const struct content *c)
     return at + CONTENT_ROOM;
 }
 
+static uint8_t *header(uint8_t *at, uint32_t size, uint32_t kind, uint32_t ring, uint32_t representative)
+{
+    at = word(at, 2, size - 2);
+    at = word(at, 2, kind);
+    at = word(at, 4, ring);
+    return word(at, 2, representative);
+}
+
+size_t message_bytes(const struct station *s, const struct held *m, uint8_t out[MESSAGE_ROOM])
+{
+    uint8_t *at = header(out, MESSAGE_LEAST + m->content.length, 1, s->ring, s->members[0]);
+
+    at = word(at, 2, m->sender);
+    at = word(at, 4, m->number);
+    at = word(at, 4, 0);
+    at = word(at, 2, m->service);
+    memcpy(at, m->content.bytes, m->content.length);
+    return (size_t)(at - out) + m->content.length;
+}
+
 size_t token_bytes(const struct token *t, uint8_t out[TOKEN_ROOM])
 {
-    uint8_t *at = out;
+    uint8_t *at = header(out, TOKEN_LEAST + 4u * t->count, 2, t->ring, t->representative);
 
-    at = word(at, 2, TOKEN_LEAST - 2 + 4u * t->count);
-    at = word(at, 2, 2);
-    at = word(at, 4, t->ring);
-    at = word(at, 2, t->representative);
     at = word(at, 2, t->addressee);
     at = word(at, 4, t->number);
     at = word(at, 4, t->highest);

@@ -60,8 +60,9 @@ void add_post(struct station *s, uint16_t service, const uint8_t *content, size_
 /* the ring's first token */
 struct token first_token(uint32_t ring, uint16_t representative);
 
-/* the token's frame; its size is the result */
+/* the frames of a token and of a message of the station's ring; their size is the result */
 size_t token_bytes(const struct token *t, uint8_t out[TOKEN_ROOM]);
+size_t message_bytes(const struct station *s, const struct held *m, uint8_t out[MESSAGE_ROOM]);
 
 void station_bytes(const struct station *s, uint8_t out[RECORD_END]);
 

@@ -22,11 +22,17 @@ int main(int count, char **arguments)
     test_layout();
     test_founding();
     test_posting();
+    test_messages();
+    test_visits();
+    test_broadcasts();
+    test_arrival_refusals();
     test_resending();
     test_whole();
     test_not_whole();
     test_use();
+    test_ring(brief);
     test_random(brief);
+    test_random_arrivals(brief);
     if (!brief)
         test_stack();
     return tally_end();

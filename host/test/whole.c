@@ -1,42 +1,9 @@
 #include "whole.h"
 
-#include <stdbool.h>
-
+#include "frames.h"
 #include "layout.h"
+#include "look.h"
 #include "words.h"
-
-static bool zero(const uint8_t *at, size_t size)
-{
-    for (size_t i = 0; i < size; i++)
-        if (at[i] != 0)
-            return false;
-    return true;
-}
-
-static uint32_t lesser(uint32_t a, uint32_t b)
-{
-    return a < b ? a : b;
-}
-
-static bool is_member(const uint8_t *r, uint32_t id)
-{
-    for (uint32_t i = 0; i < lesser(r[MEMBER_COUNT], MEMBER_PLACES); i++)
-        if (get(r + MEMBER(i), 2) == id)
-            return true;
-    return false;
-}
-
-static bool place_used(const uint8_t *r, uint64_t number)
-{
-    return get(r + SENDER(number), 2) != 0;
-}
-
-static bool is_held(const uint8_t *r, uint64_t number)
-{
-    uint64_t safe = get(r + SAFE, 4);
-
-    return safe < number && number <= safe + HELD_PLACES && place_used(r, number);
-}
 
 static bool in_range(const uint8_t *r)
 {
@@ -70,43 +37,9 @@ static bool senders_members(const uint8_t *r)
     return true;
 }
 
-static bool requests_follow(const uint8_t *t, uint32_t count, uint32_t highest)
-{
-    for (uint32_t i = 0; i < count; i++) {
-        uint32_t request = get(t + T_REQUESTS + 4 * i, 4);
-
-        if (request < 1 || request > highest)
-            return false;
-        for (uint32_t j = 0; j < i; j++)
-            if (get(t + T_REQUESTS + 4 * j, 4) == request)
-                return false;
-    }
-    return true;
-}
-
 static bool token_passes(const uint8_t *r, const uint8_t *t, size_t size)
 {
-    uint32_t ring, highest, aru, blocker, count;
-
-    if (size < 10 || get(t + T_LENGTH, 2) + 2 != size || get(t + T_KIND, 2) != 2 || size < T_REQUESTS)
-        return false;
-    ring = get(t + T_RING, 4);
-    highest = get(t + T_HIGHEST, 4);
-    aru = get(t + T_ARU, 4);
-    blocker = get(t + T_BLOCKER, 2);
-    count = get(t + T_COUNT, 2);
-    if (count > REQUEST_PLACES || size != T_REQUESTS + 4 * count || !requests_follow(t, count, highest))
-        return false;
-    if (get(t + T_NUMBER, 4) < 1 || get(t + T_NUMBER, 4) > LIMIT || highest > LIMIT)
-        return false;
-    if (aru > highest || (blocker == 0) != (aru == highest) || get(t + T_ROUND, 2) > MOST_ROUND)
-        return false;
-    if (ring < 1 || ring > LIMIT || get(t + T_REPRESENTATIVE, 2) == 0 || get(t + T_ADDRESSEE, 2) == 0)
-        return false;
-    if (ring != get(r + RING, 4) || r[MEMBER_COUNT] == 0
-        || get(t + T_REPRESENTATIVE, 2) != get(r + MEMBER(0), 2))
-        return false;
-    return is_member(r, get(t + T_ADDRESSEE, 2)) && (blocker == 0 || is_member(r, blocker));
+    return layout_refusal(t, size) == 0 && get(t + T_KIND, 2) == 2 && ring_refusal(r, t) == 0;
 }
 
 static bool founding_holds(const uint8_t *r)

@@ -12,18 +12,20 @@ use lib.Dec.{leb}
 use lib.Seq.{take-all, drop-cons, drop-drop, sets, sets-eq, length-sets}
 use Rattle.words.proofs.StoreLaws.{sets-append}
 use Rattle.frames.specs.Layout.{mostContent, longestMessage}
-use Rattle.frames.specs.Message.{messageFollows, messageBytes}
 use Rattle.frames.specs.Write.{written}
 use Rattle.frames.specs.declared.header.Header.{Header}
-use Rattle.frames.specs.declared.message.Message.{Message}
-use Rattle.record.specs.Held.{placeOf, holds}
+use Rattle.frames.proofs.Facts.{message-facts}
+use Rattle.frames.proofs.Sizes.{message-length}
+use Rattle.record.specs.Held.{placeOf, entryAt, holds}
+use Rattle.record.specs.declared.log.Held.{Held}
 use Rattle.record.specs.declared.log.Log.{Log}
 use Rattle.station.specs.Reply.{followedBy}
-use Rattle.station.specs.Deliver.{ringHeader, frameWith, entryOf, frameOf, joined}
+use Rattle.station.specs.Deliver.{ringHeader, frameWith, frameOf, joined}
 use Rattle.station.specs.Visit.{numbersAfter}
 use Rattle.station.specs.EveryArrival.{Each}
+use Rattle.station.specs.Steps.{heldMessage, heldFrame, Frameable}
 use Rattle.station.proofs.EachLaws.{Between, each-map, after-between, after-length}
-use Rattle.station.proofs.FrameLaws.{Writable, held-follows, frame-short}
+use Rattle.station.proofs.FrameLaws.{Writable, held-follows}
 
 -- ---- bytes put into the rest of a buffer, from `at` on
 
@@ -48,88 +50,96 @@ module _ (bytes out rest′ : List ℕ) (at : ℕ) (room : at + length bytes ≤
       let fits : leb (length bytes) (length part) ≡ true = le-leb (length bytes) (length part) (rw all (omega (arith, left))) in
       part-put (rw (taken, fits) at w)
 
+abbrev frames : Header → Held → List ℕ → List ℕ
+frames header h numbers = joined (map (heldFrame header h) numbers)
+
 -- ---- a held message, as the code spells it
 
-module _ (l : Log) (n : ℕ) where
-  abbrev size : ℕ
-  size = getD (l .held .lengths) (placeOf n) 0
-
+module _ (header : Header) (h : Held) (n : ℕ) where
   abbrev start : ℕ
   start = mostContent * placeOf n
 
-  abbrev heldContent : List ℕ
-  heldContent = take (start + size - start) (drop start (l .held .contents))
+  abbrev size : ℕ
+  size = getD (h .lengths) (placeOf n) 0
 
-  abbrev heldMessage : Header → Message
-  heldMessage h = record { header = h; sender = entryOf l n .sender; number = record { 0 = n }; service = entryOf l n .service }
-
-  held-content : heldContent ≡ entryOf l n .content
+  pub held-content : take (start + size - start) (drop start (h .contents)) ≡ entryAt h (placeOf n) .content
   held-content = let e : start + size - start ≡ size = omega arith in rw e
 
-  pub held-frame : (h : Header) → h ≡ ringHeader l → messageBytes (heldMessage h) heldContent ≡ frameOf l n
+  pub held-short : Frameable header h n → length (heldFrame header h n) ≤ longestMessage
+  held-short f =
+      let content = entryAt h (placeOf n) .content in
+      omega (arith, message-length (heldMessage header h n) content, message-facts (heldMessage header h n) content (f .follows) .short)
+
+-- ---- of a log
+
+module _ (l : Log) (w : Writable l) (header : Header) (is : header ≡ ringHeader l) where
+  frameable : (n : ℕ) → holds l n ≡ true → Frameable header (l .held) n
+  frameable n held =
+      let range = w .log .ready .stock .held .range in
+      record { follows = rw is (held-follows l w n held); short = range .lengths (placeOf n); long = range .arrays .contents }
+
+  pub all-frameable : (numbers : List ℕ) → Each (λ n. holds l n ≡ true) numbers → Each (Frameable header (l .held)) numbers
+  all-frameable numbers = each-map (λ n. holds l n ≡ true) (Frameable header (l .held)) numbers frameable
+
+  -- the n numbers after one
+  pub run-frameable : (last n : ℕ) → ((k : ℕ) → last < k → k ≤ last + n → holds l k ≡ true) → Each (Frameable header (l .held)) (numbersAfter last n)
+  run-frameable last n held = all-frameable (numbersAfter last n) (each-map (Between last (last + n)) (λ k. holds l k ≡ true) (numbersAfter last n) (λ k b. held k (b .above) (b .upto)) (after-between last n))
+
+  pub log-frames : (numbers : List ℕ) → frames header (l .held) numbers ≡ joined (map (frameOf l) numbers)
   unfolding frameWith
-  held-frame h e = rw (e, held-content)
+  log-frames numbers = rw is
 
-  pub held-writes : (h : Header) (at room : ℕ)
-      → Writable l
-      → holds l n ≡ true
-      → h ≡ ringHeader l
-      → at + longestMessage ≤ room
-      → (messageFollows (heldMessage h) heldContent ≡ true) × (at + length (messageBytes (heldMessage h) heldContent) ≤ room)
-  held-writes h at room w held e fits = (
-    rw (e, held-content) (held-follows l w n held),
-    rw (held-frame h e) (omega (arith, frame-short l w n held)),
-  )
+  -- what was put, as the log says it
+  pub put-log : (numbers out out′ : List ℕ) (at at′ : ℕ)
+      → (at′ ≡ at + length (frames header (l .held) numbers)) × (out′ ≡ sets out at (frames header (l .held) numbers))
+      → (at′ ≡ at + length (joined (map (frameOf l) numbers))) × (out′ ≡ sets out at (joined (map (frameOf l) numbers)))
+  put-log numbers out out′ at at′ e = rw (log-frames numbers) at e
 
--- ---- frames of held messages, one after another
-
-abbrev frames : Log → List ℕ → List ℕ
-frames l numbers = joined (map (frameOf l) numbers)
+-- ---- frames one after another
 
 -- what is still to be put, from here, gives what the whole gives
-pub record Putting (l : Log) (numbers out₀ : List ℕ) (at₀ : ℕ) (left out : List ℕ) (at : ℕ) : Type 0 where
-  pub held : Each (λ n. holds l n ≡ true) left
+pub record Putting (header : Header) (h : Held) (numbers out₀ : List ℕ) (at₀ : ℕ) (left out : List ℕ) (at : ℕ) : Type 0 where
+  pub ready : Each (Frameable header h) left
   pub long : length out ≡ length out₀
   pub room : at + longestMessage * length left ≤ length out
-  pub size : at + length (frames l left) ≡ at₀ + length (frames l numbers)
-  pub is : sets out at (frames l left) ≡ sets out₀ at₀ (frames l numbers)
+  pub size : at + length (frames header h left) ≡ at₀ + length (frames header h numbers)
+  pub is : sets out at (frames header h left) ≡ sets out₀ at₀ (frames header h numbers)
 
-module _ (l : Log) (numbers out : List ℕ) (at : ℕ) where
-  pub putting-starts : Each (λ n. holds l n ≡ true) numbers → at + longestMessage * length numbers ≤ length out → Putting l numbers out at numbers out at
-  putting-starts held room = record { held = held; long = refl; room = room; size = refl; is = refl }
+module _ (header : Header) (h : Held) (numbers out : List ℕ) (at : ℕ) where
+  pub putting-starts : Each (Frameable header h) numbers → at + longestMessage * length numbers ≤ length out → Putting header h numbers out at numbers out at
+  putting-starts ready room = record { ready = ready; long = refl; room = room; size = refl; is = refl }
 
-module _ {l : Log} {numbers out₀ : List ℕ} {at₀ : ℕ} {left out : List ℕ} {at : ℕ} (p : Putting l numbers out₀ at₀ left out at) where
-  pub putting-next : (n : ℕ) (rest : List ℕ) → left ≡ n ∷ rest → (holds l n ≡ true) × (at + longestMessage ≤ length out)
+module _ {header : Header} {h : Held} {numbers out₀ : List ℕ} {at₀ : ℕ} {left out : List ℕ} {at : ℕ} (p : Putting header h numbers out₀ at₀ left out at) where
+  pub putting-next : (n : ℕ) (rest : List ℕ) → left ≡ n ∷ rest → Frameable header h n × (at + longestMessage ≤ length out)
   putting-next n rest e =
-      let held : Each (λ k. holds l k ≡ true) (n ∷ rest) = rw e at (p .held) in
+      let ready : Each (Frameable header h) (n ∷ rest) = rw e at (p .ready) in
       let room : at + longestMessage * length (n ∷ rest) ≤ length out = rw e at (p .room) in
-      (held .0, omega arith)
+      (ready .0, omega arith)
 
   pub putting-goes : (n : ℕ) (rest out′ : List ℕ) (at′ : ℕ)
-      → Writable l
       → left ≡ n ∷ rest
-      → at′ ≡ at + length (frameOf l n)
-      → out′ ≡ sets out at (frameOf l n)
-      → Putting l numbers out₀ at₀ rest out′ at′
+      → (at′ ≡ at + length (heldFrame header h n)) × (out′ ≡ sets out at (heldFrame header h n))
+      → Putting header h numbers out₀ at₀ rest out′ at′
   unfolding flatten
-  putting-goes n rest out′ at′ w e a o =
-      let held : Each (λ k. holds l k ≡ true) (n ∷ rest) = rw e at (p .held) in
+  putting-goes n rest out′ at′ e put =
+      let frame = heldFrame header h n in
+      let ready : Each (Frameable header h) (n ∷ rest) = rw e at (p .ready) in
       let room : at + longestMessage * length (n ∷ rest) ≤ length out = rw e at (p .room) in
-      let long : length out′ ≡ length out = rw o (length-sets out at (frameOf l n)) in
-      let size : at + length (frameOf l n ++ frames l rest) ≡ at₀ + length (frames l numbers) = rw e at (p .size) in
-      let is : sets out at (frameOf l n ++ frames l rest) ≡ sets out₀ at₀ (frames l numbers) = rw e at (p .is) in
+      let long : length out′ ≡ length out = rw (put .1) (length-sets out at frame) in
+      let size : at + length (frame ++ frames header h rest) ≡ at₀ + length (frames header h numbers) = rw e at (p .size) in
+      let is : sets out at (frame ++ frames header h rest) ≡ sets out₀ at₀ (frames header h numbers) = rw e at (p .is) in
       record {
-        held = held .1;
+        ready = ready .1;
         long = long ∙ p .long;
-        room = omega (arith, frame-short l w n (held .0));
-        size = omega (arith, length-append (frameOf l n) (frames l rest));
-        is = rw (o, a) (sym (sets-append (frameOf l n) (frames l rest) out at) ∙ is);
+        room = omega (arith, put .0, held-short header h n (ready .0));
+        size = omega (arith, put .0, length-append frame (frames header h rest));
+        is = rw (put .1, put .0) (sym (sets-append frame (frames header h rest) out at) ∙ is);
       }
 
-  pub putting-ends : left ≡ [] → (at ≡ at₀ + length (frames l numbers)) × (out ≡ sets out₀ at₀ (frames l numbers))
+  pub putting-ends : left ≡ [] → (at ≡ at₀ + length (frames header h numbers)) × (out ≡ sets out₀ at₀ (frames header h numbers))
   unfolding flatten
   putting-ends e =
-      let size : at + 0 ≡ at₀ + length (frames l numbers) = rw e at (p .size) in
+      let size : at + 0 ≡ at₀ + length (frames header h numbers) = rw e at (p .size) in
       (omega arith, rw e at (p .is))
 
 -- ---- the numbers of a list, from the i-th on
@@ -154,10 +164,8 @@ pub run-ends : (last n i : ℕ) → n ≤ i → runFrom last n i ≡ []
 unfolding numbersAfter
 run-ends last n i h = let none : n - i ≡ 0 = omega arith in rw none
 
-module _ (l : Log) (last n : ℕ) (out : List ℕ) (at : ℕ) where
-  pub run-starts : ((k : ℕ) → last < k → k ≤ last + n → holds l k ≡ true)
+module _ (header : Header) (h : Held) (last n : ℕ) (out : List ℕ) (at : ℕ) where
+  pub run-starts : Each (Frameable header h) (numbersAfter last n)
       → at + longestMessage * n ≤ length out
-      → Putting l (numbersAfter last n) out at (runFrom last n 0) out at
-  run-starts held room =
-      let all = each-map (Between last (last + n)) (λ k. holds l k ≡ true) (numbersAfter last n) (λ k b. held k (b .above) (b .upto)) (after-between last n) in
-      rw (add-zero, sub-zero) (putting-starts l (numbersAfter last n) out at all (omega (arith, after-length last n)))
+      → Putting header h (numbersAfter last n) out at (runFrom last n 0) out at
+  run-starts ready room = rw (add-zero, sub-zero) (putting-starts header h (numbersAfter last n) out at ready (omega (arith, after-length last n)))

@@ -1,14 +1,21 @@
 -- What the code of a visit hands from one step to the next, in the visit's own terms. Nothing new is said here: each field is a
 -- quantity of Visit.antt.
-use Prim.Native.Nat.{ℕ, _-_}
-use mathlib.Core.Bool.{_||_, cond}
+use Prim.Native.Nat.{ℕ, _-_, _≤_}
+use mathlib.Core.Path.{_≡_}
+use mathlib.Core.Bool.{true, _||_, cond}
 use mathlib.Core.List.{List, _++_, map}
-use lib.ListN.{length, take, replicate}
+use lib.ListN.{length, getD, take, replicate}
 use lib.Dec.{ltb, eqb}
-use Rattle.frames.specs.Layout.{mostRequests}
+use Rattle.frames.specs.Layout.{mostContent, mostRequests}
+use Rattle.frames.specs.Message.{messageFollows, messageBytes}
+use Rattle.frames.specs.declared.header.Header.{Header}
+use Rattle.frames.specs.declared.message.Message.{Message}
 use Rattle.frames.specs.declared.number.MessageNumber.{MessageNumber}
 use Rattle.frames.specs.declared.token.Blocker.{Blocker}
 use Rattle.frames.specs.declared.token.Blocker.the-variants.{Nobody, Member}
+use Rattle.record.specs.Size.{heldContents}
+use Rattle.record.specs.Held.{placeOf, entryAt}
+use Rattle.record.specs.declared.log.Held.{Held}
 use Rattle.station.specs.Deliver.{frameOf, joined}
 use Rattle.station.specs.Visit.{Visit, log, unanswered, repeats, newCount, news, logNow, ownOrNobody, aru′, blocker′, safe′, deaf, broadcasts, token′, turn′}
 use Rattle.station.specs.declared.requests.Requests.{Requests}
@@ -16,7 +23,24 @@ use Rattle.station.specs.declared.broadcasting.Sent.{Sent}
 use Rattle.station.specs.declared.marks.Reach.{Reach}
 use Rattle.station.specs.declared.forwarding.Forwarded.{Forwarded}
 
--- a list of numbers in a token's places, zero past them
+-- ---- a held message's frame, from the arrays that hold it
+
+abbrev pub heldOf : List ℕ → List ℕ → List ℕ → List ℕ → Held
+heldOf senders services lengths contents = record { senders = senders; services = services; lengths = lengths; contents = contents }
+
+abbrev pub heldMessage : Header → Held → ℕ → Message
+heldMessage header h n = record { header = header; sender = entryAt h (placeOf n) .sender; number = record { 0 = n }; service = entryAt h (placeOf n) .service }
+
+abbrev pub heldFrame : Header → Held → ℕ → List ℕ
+heldFrame header h n = messageBytes (heldMessage header h n) (entryAt h (placeOf n) .content)
+
+-- it can be written
+pub record Frameable (header : Header) (h : Held) (n : ℕ) : Type 0 where
+  pub follows : messageFollows (heldMessage header h n) (entryAt h (placeOf n) .content) ≡ true
+  pub short : getD (h .lengths) (placeOf n) 0 ≤ mostContent
+  pub long : length (h .contents) ≡ heldContents
+
+-- ---- a list of numbers in a token's places, zero past them
 unfoldable pub listed : List ℕ → Requests
 listed xs = record { count = length xs; numbers = xs ++ replicate (mostRequests - length xs) 0 }
 

@@ -16,6 +16,7 @@ ghost use Rattle.record.proofs.WholeFacts.{LogGood};
 ghost use Rattle.station.specs.Deliver.{ringHeader, frameOf, joined};
 ghost use Rattle.station.specs.Visit.{numbersAfter};
 ghost use Rattle.station.specs.EveryArrival.{Each};
+ghost use Rattle.station.specs.Steps.{heldOf, heldFrame, Frameable};
 use frames::Header;
 use frames::Message;
 use frames::MessageNumber;
@@ -47,26 +48,30 @@ fn put_message(m: Message, content: &[u8], out: &mut [u8], at: usize) -> usize
     at + frames::SHORTEST_MESSAGE + content.len()
 }
 
-// The frame of a number that is held.
-fn put_held(l: Log, n: MessageNumber, out: &mut [u8], at: usize) -> usize
+// The frame of a number that is held: the log's arrays are lent, so that none is copied for it.
+fn put_held<'a>(
+    header: Header,
+    senders: &'a [u16; record::MOST_HELD],
+    services: &'a [u16; record::MOST_HELD],
+    lengths: &'a [u8; record::MOST_HELD],
+    contents: &'a [u8],
+    n: MessageNumber,
+    out: &mut [u8],
+    at: usize,
+) -> usize
     requires { ⌜
-        LogGood l
-        × (headerFollows (ringHeader l) ≡ true)
-        × (holds l (n .0) ≡ true)
+        Frameable header (heldOf (now senders) (now services) (now lengths) (now contents)) (n .0)
         × (at + longestMessage ≤ length (now out)) ⌝ }
     ensures { λ r. ⌜
-        (r ≡ at + length (frameOf l (n .0)))
-        × (now (out .exit) ≡ sets (now (out .entry)) at (frameOf l (n .0))) ⌝ }
+        (r ≡ at + length (heldFrame header (heldOf (now (senders .entry)) (now (services .entry)) (now (lengths .entry)) (now (contents .entry))) (n .0)))
+        × (now (out .exit) ≡ sets (now (out .entry)) at
+        (heldFrame header (heldOf (now (senders .entry)) (now (services .entry)) (now (lengths .entry)) (now (contents .entry))) (n .0))) ⌝ }
 {
-    let senders = l.held.senders;
-    let services = l.held.services;
-    let lengths = l.held.lengths;
-    let contents = l.held.contents;
     let place = n.0 as usize % record::MOST_HELD;
     let from = frames::MOST_CONTENT * place;
     let end = from + lengths[place] as usize;
     let m = Message {
-        header: ring_header(l),
+        header,
         sender: senders[place],
         number: n,
         service: services[place],
@@ -85,10 +90,22 @@ pub fn put_each(l: Log, numbers: &[u32], out: &mut [u8], at: usize) -> usize
         (r ≡ at + length (joined (map (frameOf l) (now (numbers .entry)))))
         × (now (out .exit) ≡ sets (now (out .entry)) at (joined (map (frameOf l) (now (numbers .entry))))) ⌝ }
 {
+    let held = l.held;
+    let header = ring_header(l);
     let mut at = at;
     let mut i = 0;
     while i < numbers.len() {
-        at = put_held(l, MessageNumber(numbers[i]), out, at);
+        let n = MessageNumber(numbers[i]);
+        at = put_held(
+            header,
+            &held.senders,
+            &held.services,
+            &held.lengths,
+            &held.contents,
+            n,
+            out,
+            at,
+        );
         i += 1;
     }
     at
@@ -106,10 +123,22 @@ pub fn put_run(l: Log, last: MessageNumber, n: u32, out: &mut [u8], at: usize) -
         (r ≡ at + length (joined (map (frameOf l) (numbersAfter (last .0) n))))
         × (now (out .exit) ≡ sets (now (out .entry)) at (joined (map (frameOf l) (numbersAfter (last .0) n)))) ⌝ }
 {
+    let held = l.held;
+    let header = ring_header(l);
     let mut at = at;
     let mut i = 0;
     while i < n {
-        at = put_held(l, MessageNumber(last.0 + i + 1), out, at);
+        let next = MessageNumber(last.0 + i + 1);
+        at = put_held(
+            header,
+            &held.senders,
+            &held.services,
+            &held.lengths,
+            &held.contents,
+            next,
+            out,
+            at,
+        );
         i += 1;
     }
     at

@@ -1,43 +1,48 @@
 use Prim.Native.Nat.{_≤_, _-_}
 use borrow.Author.Needs.{needs}
 use Rattle.station.specs.Visit.{numbersAfter}
-use Rattle.station.proofs.PutFrames.{Putting, putting-next, putting-goes, putting-ends, runFrom, run-starts, run-next, run-ends}
+use Rattle.station.proofs.FrameLaws.{Writable}
+use Rattle.station.proofs.PutFrames.{run-frameable, put-log, Putting, putting-next, putting-goes, putting-ends, runFrom, run-starts, run-next, run-ends}
 use Rattle.station.proofs.held_frames.put_run.Statement.{statement}
 use Rattle.station.proofs.held_frames.put_run.Tie as tie
 
 abbrev Inv-loop : tie.InvT-loop
-Inv-loop l last n out₀ at at₀ i₀ out at' i = (i ≤ n) × Putting l (numbersAfter (last .0) n) out₀ at₀ (runFrom (last .0) n i) out at'
+Inv-loop last n out₀ at held header at₀ i₀ out at' i = (i ≤ n) × Putting header held (numbersAfter (last .0) n) out₀ at₀ (runFrom (last .0) n i) out at'
 
 abbrev μ-loop : tie.MeasureT-loop
-μ-loop l last n out₀ at at₀ i₀ out at' i = n - i
+μ-loop last n out₀ at held header at₀ i₀ out at' i = n - i
+
+writable : (c : tie.Start Inv-loop μ-loop) → Writable (c .args .l)
+writable c = record { log = c .pre .0; header = c .pre .1 }
+
+ring-header-requires : tie.Need-ring-header-requires Inv-loop μ-loop
+ring-header-requires c κs = c .before .before .pre .0 .ready .members .few
 
 loop-holds : tie.Need-loop-holds Inv-loop μ-loop
-loop-holds c = (search needs, run-starts _ _ _ _ _ (c .before .pre .2) (c .before .pre .4))
+loop-holds c =
+    let start = c .before .before .before in
+    (search needs, run-starts _ _ _ _ _ _ (run-frameable (start .args .l) (writable start) _ (c .ring-header .ensures) _ _ (start .pre .2)) (start .pre .4))
 
 put-held-requires : tie.Need-put-held-requires Inv-loop μ-loop
-put-held-requires c κs =
-    let start = c .before .before .before .before .before in
-    let next = putting-next (c .before .before .before .loop .inv .1) _ _ (run-next _ _ _ (c .before .before .loop-test .taken)) in
-    (start .pre .0, start .pre .1, next .0, next .1)
+put-held-requires c κs = putting-next (c .before .before .before .before .before .before .before .before .before .loop .inv .1) _ _ (run-next _ _ _ (c .before .before .before .before .before .before .before .before .loop-test .taken))
 
 loop-again : tie.Need-loop-again Inv-loop μ-loop
-loop-again c =
-    let start = c .before .before .before .before .before .before .before .before in
-    let put = c .before .before .put-held .ensures in (
-      search needs,
-      putting-goes (c .before .before .before .before .before .before .loop .inv .1) _ _ _ _ (record { log = start .pre .0; header = start .pre .1 })
-          (run-next _ _ _ (c .before .before .before .before .before .loop-test .taken))
-          (put .0) (put .1),
-    )
+loop-again c = (
+  search needs,
+  putting-goes (c .before .before .before .before .before .before .before .before .before .before .before .before .loop .inv .1) _ _ _ _ (run-next _ _ _ (c .before .before .before .before .before .before .before .before .before .before .before .loop-test .taken)) (c .before .before .put-held .ensures),
+)
 
 same-length : tie.Need-same-length Inv-loop μ-loop
 same-length c = c .before .loop .inv .1 .long
 
 returns : tie.Need-returns Inv-loop μ-loop
-returns c = putting-ends (c .before .loop .inv .1) (run-ends _ _ _ (c .loop-test .left))
+returns c =
+    let start = c .before .before .before .before .before in
+    put-log (start .args .l) (writable start) _ (c .before .before .ring-header .ensures) (numbersAfter (start .args .last .0) (start .args .n)) (start .args .out .now) _ _ _
+    (putting-ends (c .before .loop .inv .1) (run-ends _ _ _ (c .loop-test .left)))
 
 pub put-run-spec : {M : Type 1} → statement M
 put-run-spec =
     tie.close
-    (tie.spec Inv-loop μ-loop loop-holds (λ c. search needs) (λ c. search needs) put-held-requires (λ c. search needs)
-    (λ c. search needs) loop-again same-length returns)
+    (tie.spec Inv-loop μ-loop ring-header-requires loop-holds (λ c. search needs) (λ c. search needs) put-held-requires
+    (λ c. search needs) (λ c. search needs) loop-again same-length returns)
