@@ -3,7 +3,7 @@ use Prim.Native.Nat.{ℕ, _*_, _-_, _≤_}
 use mathlib.Core.Path.{_≡_}
 use mathlib.Core.List.{List, _++_}
 use native.Mathlib.Omega.{arith}
-use lib.ListN.{length, take, drop, replicate}
+use lib.ListN.{take, drop, replicate}
 use Rattle.frames.specs.Layout.{mostContent}
 use Rattle.record.specs.Size.{mostPosts, postContents}
 use Rattle.record.specs.Posts.{taken}

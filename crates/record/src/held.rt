@@ -5,7 +5,7 @@ ghost use Prim.Native.Nat.{_+_, _≤_};
 ghost use lib.ListN.{length};
 ghost use Rattle.frames.specs.Number.{mostNumber};
 ghost use Rattle.frames.specs.Layout.{mostContent};
-ghost use Rattle.record.specs.Held.{placeOf, holds, heldWith, logWith, stored, cleared, clearedFrom, letGo};
+ghost use Rattle.record.specs.Held.{holds, heldWith, logWith, stored, cleared, clearedFrom, letGo};
 use crate::log::Held;
 use crate::log::Log;
 use crate::size;

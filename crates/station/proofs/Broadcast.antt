@@ -1,6 +1,6 @@
 -- Steps 1 to 3 as the code makes them: what each call hands to the next.
 use Prim.Native.Nat.{ℕ, _+_, _*_, _-_, _<_, _≤_}
-use mathlib.Core.Path.{_≡_, refl, sym, ap, _∙_}
+use mathlib.Core.Path.{_≡_, ap, _∙_}
 use mathlib.Core.Bool.{true, not}
 use mathlib.Core.List.{List, _++_, map}
 use native.Mathlib.Nat.{sub-zero}
@@ -21,14 +21,12 @@ use Rattle.station.specs.Deliver.{ringHeader, frameOf, joined}
 use Rattle.station.specs.Visit.{Visit, log, own, posts, those, requests, repeats, unanswered, newCount, withNews, numbersAfter, news, logNow, highest′, broadcasts}
 use Rattle.station.specs.EveryArrival.{Each, Acceptable}
 use Rattle.station.specs.Steps.{listed, listIn, sentFrames, sentOf}
-use Rattle.station.specs.declared.requests.Requests.{Requests}
 use Rattle.station.specs.declared.requests.Sifted.{Sifted}
-use Rattle.station.specs.declared.broadcasting.Sent.{Sent}
 use Rattle.station.proofs.RingFacts.{ring-header}
-use Rattle.station.proofs.EachLaws.{those-pass, those-length}
+use Rattle.station.proofs.EachLaws.{those-pass}
 use Rattle.station.proofs.NewsLaws.{news-rest}
 use Rattle.station.proofs.ListedLaws.{list-of-listed, count-of-listed}
-use Rattle.station.proofs.VisitFacts.{facts, token-good, new-posts, new-numbers, few-new, few-repeats, few-broadcasts, highest-most, now-good, now-new, now-ring}
+use Rattle.station.proofs.VisitFacts.{facts, token-good, new-posts, new-numbers, few-repeats, few-broadcasts, now-good, now-new, now-ring}
 
 module _ (v : Visit) (a : Acceptable v) where
   pub safe-most : log v .safe .0 ≤ mostNumber

@@ -1,7 +1,7 @@
 -- Steps 4 to 8 as the code makes them: what each call hands to the next.
 use Prim.Native.Nat.{ℕ, _+_, _-_, _≤_, min, max}
-use mathlib.Core.Path.{_≡_, refl, sym, ap, _∙_}
-use mathlib.Core.Bool.{Bool, true, false, not, _&&_, _||_, cond}
+use mathlib.Core.Path.{_≡_, refl, ap, _∙_}
+use mathlib.Core.Bool.{Bool, true, false, not, _&&_, cond}
 use mathlib.Core.List.{List, _++_}
 use borrow.Author.Tests.{le-leb}
 use native.Mathlib.Nat.{sub-zero}
@@ -15,28 +15,23 @@ use Rattle.frames.specs.Token.{tokenBytes}
 use Rattle.frames.specs.Write.{written, tokenWritten}
 use Rattle.frames.specs.declared.number.MessageNumber.{MessageNumber}
 use Rattle.frames.specs.declared.header.Header.{Header}
-use Rattle.frames.specs.declared.token.Blocker.{Blocker}
-use Rattle.frames.specs.declared.token.Blocker.the-variants.{Nobody, Member}
 use Rattle.frames.specs.declared.token.Token.{Token}
 use Rattle.frames.proofs.TokenLaws.{drop-replicate}
 use Rattle.record.specs.Size.{mostMembers, mostHeld, mostStall}
 use Rattle.record.specs.Held.{holds}
-use Rattle.record.specs.Ring.{ids}
-use Rattle.record.specs.declared.log.Log.{Log}
 use Rattle.record.specs.declared.turn.Turn.{Turn}
 use Rattle.station.specs.Deliver.{ringHeader}
-use Rattle.station.specs.Visit.{Visit, log, own, turn, those, numbersAfter, others, requests, unanswered, newCount, highest′, logNow, level′, isNobody, isOwn, ownOrNobody, setsAru, aru′, blocker′, deafAbove, stall′, deaf, safe′, missing, requests′, broadcasts, round′, nextMember, token′, turn′}
+use Rattle.station.specs.Visit.{Visit, log, own, turn, those, numbersAfter, others, requests, unanswered, newCount, highest′, logNow, isNobody, isOwn, setsAru, aru′, blocker′, deafAbove, stall′, deaf, safe′, missing, requests′, broadcasts, round′, nextMember, token′, turn′}
 use Rattle.station.specs.EveryArrival.{Acceptable}
 use Rattle.station.specs.Steps.{listed, listIn, sentOf, reachAfter, reachOf, forwardedOf}
 use Rattle.station.specs.declared.requests.Requests.{Requests}
 use Rattle.station.specs.declared.broadcasting.Sent.{Sent}
 use Rattle.station.specs.declared.marks.Reach.{Reach}
-use Rattle.station.specs.declared.forwarding.Forwarded.{Forwarded}
 use Rattle.station.proofs.EachLaws.{those-length}
 use Rattle.station.proofs.ListedLaws.{list-of-listed, count-of-listed}
 use Rattle.station.proofs.RequestLaws.{few-requests}
 use Rattle.station.proofs.TokenLaws.{token-follows, token-long, token-short}
-use Rattle.station.proofs.VisitFacts.{facts, token-good, few-broadcasts, highest-most, now-good, now-safe}
+use Rattle.station.proofs.VisitFacts.{facts, token-good, few-broadcasts, highest-most, now-good}
 
 -- a choice between two numbers
 cond-number : (b : Bool) (x y : MessageNumber) → cond b x y ≡ record { 0 = cond b (x .0) (y .0) }

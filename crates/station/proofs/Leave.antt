@@ -1,11 +1,11 @@
 -- Step 9 as the code makes it, and the visit whole.
-use Prim.Native.Nat.{ℕ, _+_, _*_, _-_, _≤_}
+use Prim.Native.Nat.{ℕ, _+_, _-_, _≤_}
 use mathlib.Core.Path.{_≡_, refl, sym, ap, _∙_}
 use mathlib.Core.Bool.{true}
-use mathlib.Core.List.{List, [], _∷_, _++_, append-nil}
+use mathlib.Core.List.{List}
 use native.Mathlib.Nat.{zero-add}
 use native.Mathlib.Omega.{arith}
-use lib.ListN.{length, take, drop, length-append}
+use lib.ListN.{length, length-append}
 use lib.Seq.{sets, length-sets, take-at}
 use Rattle.words.proofs.StoreLaws.{sets-append, front-stored}
 use Rattle.frames.specs.Number.{mostNumber}
@@ -18,12 +18,11 @@ use Rattle.record.specs.Posts.{taken}
 use Rattle.record.specs.Turn.{remembered}
 use Rattle.record.specs.declared.log.Log.{Log}
 use Rattle.record.specs.declared.posts.Posts.{Posts}
-use Rattle.record.specs.declared.Record.{Record}
 use Rattle.record.proofs.RangeFacts.{posts-range}
 use Rattle.record.proofs.WholeFacts.{LogGood}
 use Rattle.station.specs.Reply.{doneOf, followedBy, mostFrames, mostDeliveries}
 use Rattle.station.specs.Deliver.{ringHeader, joined, handedOut, delivered}
-use Rattle.station.specs.Visit.{Visit, log, own, posts, newCount, logNow, safe′, token′, turn′, log′, rec′, deaf, written, accepted}
+use Rattle.station.specs.Visit.{Visit, log, own, posts, logNow, safe′, token′, turn′, log′, rec′, deaf, written, accepted}
 use Rattle.station.specs.EveryArrival.{Acceptable}
 use Rattle.station.specs.Steps.{sentFrames, sentOf, forwardedOf}
 use Rattle.station.specs.declared.answer.Answer.the-variants.{Accepted}
@@ -31,7 +30,7 @@ use Rattle.station.specs.declared.broadcasting.Sent.{Sent}
 use Rattle.station.specs.declared.forwarding.Forwarded.{Forwarded}
 use Rattle.station.specs.declared.delivering.Handed.{Handed}
 use Rattle.station.proofs.RingFacts.{ring-header}
-use Rattle.station.proofs.FrameLaws.{Writable, handed-fits, joined-join}
+use Rattle.station.proofs.FrameLaws.{Writable, handed-fits}
 use Rattle.station.proofs.TokenLaws.{token-short}
 use Rattle.station.proofs.VisitFacts.{facts, new-posts, now-good, now-safe, now-ring}
 use Rattle.station.proofs.VisitReads.{sent-short, written-is, written-fits}

@@ -17,7 +17,7 @@ use Rattle.record.specs.Size.{heldContents}
 use Rattle.record.specs.Held.{placeOf, entryAt}
 use Rattle.record.specs.declared.log.Held.{Held}
 use Rattle.station.specs.Deliver.{frameOf, joined}
-use Rattle.station.specs.Visit.{Visit, log, unanswered, repeats, newCount, news, logNow, ownOrNobody, aru′, blocker′, safe′, deaf, broadcasts, token′, turn′}
+use Rattle.station.specs.Visit.{Visit, log, unanswered, repeats, newCount, news, logNow, ownOrNobody, aru′, blocker′, safe′, deaf, broadcasts, turn′}
 use Rattle.station.specs.declared.requests.Requests.{Requests}
 use Rattle.station.specs.declared.broadcasting.Sent.{Sent}
 use Rattle.station.specs.declared.marks.Reach.{Reach}

@@ -1,8 +1,7 @@
-use Prim.Native.Nat.{_≤_}
 use native.Mathlib.Omega.{arith}
 use borrow.Author.Needs.{needs}
 use Rattle.station.specs.Visit.{Visit}
-use Rattle.station.specs.EveryArrival.{Acceptable, visit}
+use Rattle.station.specs.EveryArrival.{visit}
 use Rattle.station.proofs.VisitFacts.{token-good}
 use Rattle.station.proofs.Broadcast.{safe-most, asked-few, sifted-count, sifted-held, sifted-few, news-allowed, sent-few, level-ready, both-ready, all-sent}
 use Rattle.station.proofs.broadcasting.broadcast.Statement.{statement}

@@ -1,7 +1,7 @@
 use Prim.Native.Nat.{_+_, _*_, _-_}
 use mathlib.Core.Path.{_≡_}
 use native.Mathlib.Omega.{arith}
-use lib.ListN.{getD, take, drop, length-take}
+use lib.ListN.{getD, drop, length-take}
 use borrow.Author.Needs.{needs}
 use Rattle.record.proofs.RangeFacts.{PostsRange, posts-range}
 use Rattle.station.proofs.news.hold_post.Statement.{statement}
