@@ -14,9 +14,9 @@ use Rattle.frames.specs.declared.token.Blocker.{Blocker}
 use Rattle.frames.specs.declared.token.Blocker.the-variants.{Nobody, Member}
 use Rattle.frames.specs.declared.reader.Reading.{Reading}
 use Rattle.frames.specs.declared.reader.Answer.the-variants.{Refused, IsMessage, IsToken}
-use Rattle.dump.specs.Text.{Put, Whole, ascii, decimal, each}
+use Rattle.text.specs.Text.{Put, Whole, ascii, decimal, each}
 use Rattle.dump.specs.Line.{field, blockerText, following, listed, messageLine, tokenLine, refusalLine, lineOf, longestLine}
-use Rattle.dump.proofs.PutLaws.{put-nothing, put-then}
+use Rattle.text.proofs.PutLaws.{put-nothing, put-then}
 use Rattle.dump.proofs.Longest.{line-short}
 
 pub listed-none : (xs out : List ℕ) (at : ℕ) → length xs ≡ 0 → at ≤ length out → Put out at (listed xs) at out

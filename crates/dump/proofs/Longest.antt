@@ -20,7 +20,7 @@ use Rattle.frames.specs.declared.token.Token.{Token}
 use Rattle.frames.specs.declared.token.Blocker.{Blocker}
 use Rattle.frames.specs.declared.token.Blocker.the-variants.{Nobody, Member}
 use Rattle.frames.specs.declared.reader.Reading.{Reading}
-use Rattle.dump.specs.Text.{digitsTo, isPlain, escapedByte, each}
+use Rattle.text.specs.Text.{digitsTo, isPlain, escapedByte, each}
 use Rattle.dump.specs.Line.{longestLine, headerText, messageFields, messageLine, blockerText, following, listed, requestsText, tokenFields, tokenLine, refusalLine, answerLine, lineOf}
 
 -- ---- pieces

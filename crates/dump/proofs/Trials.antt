@@ -9,7 +9,7 @@ use Rattle.frames.specs.Header.{headerOf, headerFollows}
 use Rattle.frames.specs.Message.{messageOf, messageFollows}
 use Rattle.frames.specs.Token.{requestsOf, requestsFollow, tokenOf, tokenFollows}
 use Rattle.frames.specs.Read.{readMessage, readToken, readOf, blankToken}
-use Rattle.dump.specs.Text.{ascii, digitsTo, each}
+use Rattle.text.specs.Text.{ascii, digitsTo, each}
 use Rattle.dump.specs.Line.{headerText, messageFields, messageLine, requestsText, tokenFields, tokenLine, refusalLine, lineOf}
 
 abbrev message : List ℕ

@@ -12,7 +12,7 @@ use Rattle.frames.specs.declared.token.Blocker.{Blocker}
 use Rattle.frames.specs.declared.token.Blocker.the-variants.{Nobody, Member}
 use Rattle.frames.specs.declared.reader.Answer.{Answer}
 use Rattle.frames.specs.declared.reader.Answer.the-variants.{Refused, IsMessage, IsToken}
-use Rattle.dump.specs.Text.{ascii, decimal, each, escaped}
+use Rattle.text.specs.Text.{ascii, decimal, each, escaped}
 
 abbrev pub field : List ℕ → ℕ → List ℕ
 field name value = name ++ decimal value

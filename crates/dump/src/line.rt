@@ -3,10 +3,9 @@
 ghost use mathlib.Core.Path.{_≡_};
 ghost use Prim.Native.Nat.{_+_, _≤_};
 ghost use lib.ListN.{length, take};
-ghost use Rattle.dump.specs.Text.{Put, Whole, each};
+ghost use Rattle.text.specs.Text.{Put, Whole, each};
 ghost use Rattle.dump.specs.Line.{field, headerText, messageFields, messageLine, blockerText, following, listed};
 ghost use Rattle.dump.specs.Line.{requestsText, tokenFields, tokenLine, refusalLine, lineOf, longestLine};
-use crate::text;
 use frames::Answer;
 use frames::Blocker;
 use frames::Header;

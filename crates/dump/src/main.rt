@@ -2,7 +2,6 @@
 // output. Whole frames that have come are shown before more input is waited for.
 mod input;
 mod line;
-mod text;
 
 ghost use Prim.Native.Nat.{_+_, _≤_, _<_};
 ghost use lib.ListN.{length};

@@ -30,4 +30,10 @@ pub mod Newest
 pub mod Promise
 pub mod OverBytes
 pub mod Checked
+pub mod PlaceLaws
+pub mod MemberLaws
+pub mod CutLaws
+pub mod FoundingLaws
+pub mod ArriveLaws
+pub mod HearingLaws
 pub mod Script

@@ -12,7 +12,8 @@ use Rattle.ring.specs.Log.{writtenIn, isNumbered, reading, deliveryList,
 use Rattle.ring.specs.Run.{records, firstFrame, start, update, step, run}
 use Rattle.ring.specs.Demand.{overStructs}
 use Rattle.ring.specs.Newest.{newest}
-use Rattle.ring.specs.Script.{members, ring, placeFrom, broadcasts, toOthers, handsOn, tick, ticks, scriptOf, script, entries, linesOf, printed, sameLines, readings, listsAre, acceptedAt, ScriptRuns}
+use Rattle.ring.specs.Stations.{placeFrom}
+use Rattle.ring.specs.Script.{members, ring, broadcasts, toOthers, handsOn, tick, ticks, scriptOf, script, entries, linesOf, printed, sameLines, readings, listsAre, acceptedAt, ScriptRuns}
 use Rattle.ring.proofs.Checked.{anyFrame, possible, can-be-made}
 
 -- opens all that a run computes with

@@ -7,4 +7,5 @@ pub mod AlwaysWhole
 pub mod Newest
 pub mod Promise
 pub mod OverBytes
+pub mod Stations
 pub mod Script

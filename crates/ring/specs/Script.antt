@@ -17,6 +17,7 @@ use Rattle.ring.specs.Log.{Entry, Written, place, writtenBy, reading, de
 use Rattle.ring.specs.Run.{Ring, records, firstFrame, ringOf, start, run}
 use Rattle.ring.specs.Demand.{overStructs, CanAfter}
 use Rattle.ring.specs.Newest.{newest}
+use Rattle.ring.specs.Stations.{placeFrom}
 
 -- ---- r 4 3 7
 
@@ -31,11 +32,6 @@ ring = 4
 -- buffers as large as question 1 asks
 abbrev arrives : ℕ → List ℕ → Call
 arrives p frame = arrival p frame (replicate mostFrames 0) (replicate mostDeliveries 0)
-
--- the place of an id, counted from p on
-unfoldable pub placeFrom : ℕ → List ℕ → ℕ → ℕ
-placeFrom p [] id = p
-placeFrom p (x ∷ xs) id = cond (eqb x id) p (placeFrom (suc p) xs id)
 
 -- all frames but the last, the token
 unfoldable pub broadcasts : List (List ℕ) → List (List ℕ)

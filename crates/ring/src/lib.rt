@@ -1,6 +1,18 @@
 // A ring of 2 to 8 stations. What is proved of it stands in specs/: demand 3, that delivery lists are the
 // readings in order, that records stay whole, that the newest token is never refused, and all of it for
-// records as bytes.
+// records as bytes. For programs: a ring's stations by place in lent bytes.
+mod broadcasts;
+mod founding;
+mod members;
+mod stations;
+
+pub use broadcasts::first_size;
+pub use broadcasts::hear_all;
+pub use broadcasts::newest_token;
+pub use founding::found_ring;
+pub use members::addressee_place;
+pub use stations::arrive_at;
+pub use stations::post_at;
 ghost use mathlib.Core.Path.{_≡_};
 ghost use mathlib.Core.Bool.{true};
 ghost use Rattle.ring.specs.Run.{ringFoundable};

@@ -1,5 +1,5 @@
 use borrow.Author.Needs.{needs}
-use Rattle.dump.proofs.PutLaws.{put-then}
+use Rattle.text.proofs.PutLaws.{put-then}
 use Rattle.dump.proofs.line.put_field.Statement.{statement}
 use Rattle.dump.proofs.line.put_field.Tie as tie
 

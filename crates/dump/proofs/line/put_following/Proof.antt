@@ -1,9 +1,9 @@
 use Prim.Native.Nat.{_≤_, _-_}
 use borrow.Author.Needs.{needs}
 use lib.ListN.{length, take}
-use Rattle.dump.specs.Text.{Put, each}
+use Rattle.text.specs.Text.{Put, each}
 use Rattle.dump.specs.Line.{following}
-use Rattle.dump.proofs.PutLaws.{each-starts, each-goes, each-ends}
+use Rattle.text.proofs.PutLaws.{each-starts, each-goes, each-ends}
 use Rattle.dump.proofs.line.put_following.Statement.{statement}
 use Rattle.dump.proofs.line.put_following.Tie as tie
 

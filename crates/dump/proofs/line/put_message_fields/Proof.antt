@@ -1,6 +1,6 @@
 use borrow.Author.Needs.{needs}
 use Rattle.dump.specs.Line.{messageFields}
-use Rattle.dump.proofs.PutLaws.{put-then}
+use Rattle.text.proofs.PutLaws.{put-then}
 use Rattle.dump.proofs.line.put_message_fields.Statement.{statement}
 use Rattle.dump.proofs.line.put_message_fields.Tie as tie
 
