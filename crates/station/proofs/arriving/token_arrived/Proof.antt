@@ -45,8 +45,9 @@ returns-3 c =
 
 returns-4 : tie.Need-returns-4
 returns-4 c =
-    refuses-both _ _ _ _ _ _
-    (token-old _ _ (this (c .before .before .before .before .before .before .before .before .before)) (members (c .before .before .before .before .before .before .before)) (c .before .before .before .before .if3 .left) (c .before .if4 .taken))
+    let a = start (c .before .before .before .before .before .before .before .before .before) .args in
+    refuses-both _ (a .rec) _ _ _ _
+    (token-old (a .rec) (a .t) (this (c .before .before .before .before .before .before .before .before .before)) (members (c .before .before .before .before .before .before .before)) (c .before .before .before .before .if3 .left) (c .before .if4 .taken))
     (c .refuse4 .ensures)
 
 returns-5 : tie.Need-returns-5
@@ -60,8 +61,9 @@ covers-held-requires c κs = safe-most _ (start (c .before .before .before .befo
 
 returns-6 : tie.Need-returns-6
 returns-6 c =
-    refuses-both _ _ _ _ _ _
-    (token-below _ _ (this (c .before .before .before .before .before .before .before .before .before .before .before .before .before)) (members (c .before .before .before .before .before .before .before .before .before .before .before)) (c .before .before .before .before .before .before .before .before .if3 .left) (c .before .before .before .before .before .if4 .left) (c .before .before .before .if5 .left)
+    let a = start (c .before .before .before .before .before .before .before .before .before .before .before .before .before) .args in
+    refuses-both _ (a .rec) _ _ _ _
+    (token-below (a .rec) (a .t) (this (c .before .before .before .before .before .before .before .before .before .before .before .before .before)) (members (c .before .before .before .before .before .before .before .before .before .before .before)) (c .before .before .before .before .before .before .before .before .if3 .left) (c .before .before .before .before .before .if4 .left) (c .before .before .before .if5 .left)
     (sym (c .before .before .covers-held .ensures) ∙ not-true _ (c .before .if6 .taken)))
     (c .refuse6 .ensures)
 

@@ -3,7 +3,7 @@ use Rattle.station.proofs.marks.sets_aru.Statement.{statement}
 use Rattle.station.proofs.marks.sets_aru.Tie as tie
 
 returns : tie.Need-returns
-returns c = cc
+returns c = rw (c .is-own .ensures, c .before .is-nobody .ensures)
 
 pub sets-aru-spec : {M : Type 1} → statement M
 sets-aru-spec = tie.close (tie.spec (λ c κs. search needs) (λ c κs. search needs) returns)
