@@ -8,7 +8,7 @@
 
 #include "totem.h"
 
-enum { RING = 4, OWN = 7, MESSAGE_LEN = 86, REQUESTS = 16 };
+enum { RING = 4, OWN = 7, MESSAGE_LEN = 86 };
 
 static const uint8_t members[] = {3, 0, 7, 0, 9, 0};
 
@@ -90,7 +90,7 @@ static void hear(unsigned count)
 
     for (unsigned i = 0; i < count; i++) {
         put_message(frame, i + 1);
-        expect(arrive(frame, sizeof frame), 3, 0);
+        expect(arrive(frame, sizeof frame), TOTEM_KEPT, 0);
     }
 }
 
@@ -102,11 +102,11 @@ static const struct {
     unsigned heard, posts, asked, outcome, written;
 } kinds[] = {
     [POST] = {"post", 0, 0, 0, TOTEM_POSTED, 0},
-    [MESSAGE] = {"message", 0, 0, 0, 3, 0},
-    [IDLE] = {"idle", 0, 0, 0, 6, TOTEM_TOKEN_LEN},
-    [NEW] = {"new", 0, 16, 0, 6, 8 * MESSAGE_LEN + TOTEM_TOKEN_LEN},
-    [REPEATS] = {"repeats", 16, 0, 16, 6, 16 * MESSAGE_LEN + TOTEM_TOKEN_LEN},
-    [RESEND] = {"resend", 0, 0, 0, 7, TOTEM_TOKEN_LEN},
+    [MESSAGE] = {"message", 0, 0, 0, TOTEM_KEPT, 0},
+    [IDLE] = {"idle", 0, 0, 0, TOTEM_ACCEPTED, TOTEM_TOKEN_LEN},
+    [NEW] = {"new", 0, 16, 0, TOTEM_ACCEPTED, 8 * MESSAGE_LEN + TOTEM_TOKEN_LEN},
+    [REPEATS] = {"repeats", 16, 0, 16, TOTEM_ACCEPTED, 16 * MESSAGE_LEN + TOTEM_TOKEN_LEN},
+    [RESEND] = {"resend", 0, 0, 0, TOTEM_RESENT, TOTEM_TOKEN_LEN},
 };
 
 static totem_answer call(enum kind kind, const uint8_t *frame, unsigned size)
@@ -123,19 +123,23 @@ int main(int count, char **arguments)
     uint8_t before[TOTEM_STATION_LEN], frame[TOTEM_FRAMES_LEN];
     unsigned kind = 0, size;
 
-    if (count != 3)
+    if (count != 3) {
+        printf("usage: %s KIND COUNT\n", arguments[0]);
         return 2;
+    }
     while (kind < sizeof kinds / sizeof *kinds && strcmp(kinds[kind].name, arguments[1]) != 0)
         kind++;
-    if (kind == sizeof kinds / sizeof *kinds)
+    if (kind == sizeof kinds / sizeof *kinds) {
+        printf("no kind of call: %s\n", arguments[1]);
         return 2;
+    }
     expect(totem_found(station, sizeof station, members, sizeof members, OWN, RING, frames, sizeof frames),
            TOTEM_FOUNDED, TOTEM_TOKEN_LEN);
     hear(kinds[kind].heard);
     post(kinds[kind].posts);
     size = put_token(frame, kinds[kind].heard, kinds[kind].asked);
     if (kind == RESEND)
-        expect(arrive(frame, size), 6, TOTEM_TOKEN_LEN);
+        expect(arrive(frame, size), TOTEM_ACCEPTED, TOTEM_TOKEN_LEN);
     if (kind == MESSAGE) {
         put_message(frame, 1);
         size = MESSAGE_LEN;

@@ -1,4 +1,4 @@
--- The calls of demand 3's list, and what each answers: the definitions that the contracts of posting and resending cite, and `arrived`.
+-- The calls of demand 3's list, and what each answers: the definitions that the contracts of posting, arrival and resending cite.
 -- [document 01, The words of demand 3]
 use Prim.Native.Nat.{ℕ}
 use mathlib.Core.List.{List}
