@@ -70,7 +70,7 @@ sizes-let-go l safe s = sizes-cleared-from (l .held) (suc (l .safe .0)) (safe - 
 
 -- ---- the entry at a place
 
-entry-same : (h : Held) (place : ℕ) (e : Entry) → HeldSizes h → place < mostHeld → length (e .content) ≤ mostContent → entryAt (heldWith h place e) place ≡ e
+pub entry-same : (h : Held) (place : ℕ) (e : Entry) → HeldSizes h → place < mostHeld → length (e .content) ≤ mostContent → entryAt (heldWith h place e) place ≡ e
 unfolding heldWith
 entry-same h place e s h< short =
     rw (

@@ -1,11 +1,12 @@
 // What a log holds: is a number held, a message is held, and everything up to a new safe mark is let go.
 // A message's place follows from its number alone.
 ghost use mathlib.Core.Path.{_≡_};
-ghost use Prim.Native.Nat.{_+_, _≤_};
+ghost use Prim.Native.Nat.{_+_, _*_, _≤_};
 ghost use lib.ListN.{length};
+ghost use lib.Seq.{sets};
 ghost use Rattle.frames.specs.Number.{mostNumber};
 ghost use Rattle.frames.specs.Layout.{mostContent};
-ghost use Rattle.record.specs.Held.{holds, heldWith, logWith, stored, cleared, clearedFrom, letGo};
+ghost use Rattle.record.specs.Held.{placeOf, holds, heldOf, heldWith, logWith, stored, clearedFrom, letGo};
 use crate::log::Held;
 use crate::log::Log;
 use crate::size;
@@ -44,24 +45,39 @@ pub fn log_with(
     }
 }
 
-fn place_message(h: Held, place: usize, sender: u16, service: u16, content: &[u8]) -> Held
+// A content at its place among those held.
+fn put_content(contents: &mut [u8; size::HELD_CONTENTS], place: usize, content: &[u8])
     requires { ⌜ (place ≤ 31) × (length (now content) ≤ mostContent) ⌝ }
-    ensures { λ r. ⌜ r ≡ heldWith h place (record { sender = sender; service = service; content = now (content .entry) }) ⌝ }
+    ensures { λ _. ⌜ now (contents .exit) ≡ sets (now (contents .entry)) (mostContent * place) (now (content .entry)) ⌝ }
 {
-    let mut senders = h.senders;
-    let mut services = h.services;
-    let mut lengths = h.lengths;
-    let mut contents = h.contents;
+    words::put_bytes(contents, frames::MOST_CONTENT * place, content);
+}
+
+// A message at a number's place. The log's arrays are lent, so that none is copied for it. Ruled out:
+// another place changed; the length of another content.
+pub fn place_message(
+    senders: &mut [u16; size::MOST_HELD],
+    services: &mut [u16; size::MOST_HELD],
+    lengths: &mut [u8; size::MOST_HELD],
+    contents: &mut [u8; size::HELD_CONTENTS],
+    n: MessageNumber,
+    sender: u16,
+    service: u16,
+    content: &[u8],
+)
+    requires { ⌜ length (now content) ≤ mostContent ⌝ }
+    ensures { λ _. ⌜
+        heldOf (now (senders .exit)) (now (services .exit)) (now (lengths .exit)) (now (contents .exit))
+        ≡ heldWith
+        (heldOf (now (senders .entry)) (now (services .entry)) (now (lengths .entry)) (now (contents .entry)))
+        (placeOf (n .0))
+        (record { sender = sender; service = service; content = now (content .entry) }) ⌝ }
+{
+    let place = n.0 as usize % size::MOST_HELD;
     senders[place] = sender;
     services[place] = service;
     lengths[place] = content.len() as u8;
-    words::put_bytes(&mut contents, frames::MOST_CONTENT * place, content);
-    Held {
-        senders,
-        services,
-        lengths,
-        contents,
-    }
+    put_content(contents, place, content);
 }
 
 // A message is held under a number. Ruled out: another number's message written over; a mark changed.
@@ -69,36 +85,30 @@ pub fn store(l: Log, n: MessageNumber, sender: u16, service: u16, content: &[u8]
     requires { ⌜ length (now content) ≤ mostContent ⌝ }
     ensures { λ r. ⌜ r ≡ stored l (n .0) (record { sender = sender; service = service; content = now (content .entry) }) ⌝ }
 {
-    let place = n.0 as usize % size::MOST_HELD;
-    let held = place_message(l.held, place, sender, service, content);
-    log_with(l, l.level, l.safe, l.delivered, held)
-}
-
-fn clear(h: Held, place: usize) -> Held
-    requires { ⌜ place ≤ 31 ⌝ }
-    ensures { λ r. ⌜ r ≡ cleared h place ⌝ }
-{
-    let mut senders = h.senders;
-    let mut services = h.services;
-    let mut lengths = h.lengths;
-    let mut contents = h.contents;
-    senders[place] = 0;
-    services[place] = 0;
-    lengths[place] = 0;
-    words::put_bytes(
+    let mut senders = l.held.senders;
+    let mut services = l.held.services;
+    let mut lengths = l.held.lengths;
+    let mut contents = l.held.contents;
+    place_message(
+        &mut senders,
+        &mut services,
+        &mut lengths,
         &mut contents,
-        frames::MOST_CONTENT * place,
-        &[0u8; frames::MOST_CONTENT],
+        n,
+        sender,
+        service,
+        content,
     );
-    Held {
+    let held = Held {
         senders,
         services,
         lengths,
         contents,
-    }
+    };
+    log_with(l, l.level, l.safe, l.delivered, held)
 }
 
-// The places of n numbers, from `first` on.
+// The places of n numbers, from `first` on, are cleared where they stand: nothing is copied for it.
 fn clear_from(h: Held, first: u32, n: u32) -> Held
     requires { ⌜ first + n ≤ 4000000000 ⌝ }
     ensures { λ r. ⌜ r ≡ clearedFrom h first n ⌝ }
@@ -106,7 +116,11 @@ fn clear_from(h: Held, first: u32, n: u32) -> Held
     let mut held = h;
     let mut i = 0;
     while i < n {
-        held = clear(held, (first + i) as usize % size::MOST_HELD);
+        let place = (first + i) as usize % size::MOST_HELD;
+        held.senders[place] = 0;
+        held.services[place] = 0;
+        held.lengths[place] = 0;
+        put_content(&mut held.contents, place, &[0u8; frames::MOST_CONTENT]);
         i += 1;
     }
     held

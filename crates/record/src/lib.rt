@@ -24,6 +24,7 @@ pub use fresh::fresh_record;
 pub use held::is_held;
 pub use held::let_go;
 pub use held::log_with;
+pub use held::place_message;
 pub use held::store;
 pub use layout::RECORD_SIZE;
 pub use lent::no_record;

@@ -4,18 +4,16 @@ use mathlib.Core.Path.{_≡_, refl, sym, ap, _∙_}
 use mathlib.Core.Logic.{_≢_}
 use mathlib.Core.Bool.{Bool, true, false, not, _&&_, cond, and-false}
 use mathlib.Core.List.{List}
-use borrow.Author.Tests.{leb-true, ltb-true, eqb-true, lt-ltb, le-ltb, le-leb, lt-leb}
+use borrow.Author.Tests.{leb-true, ltb-true, lt-ltb, le-ltb, le-leb, lt-leb}
 use native.Mathlib.Omega.{arith}
-use lib.Dec.{leb, ltb, eqb}
+use lib.Dec.{leb, ltb}
 use Rattle.frames.specs.Message.{contentOf}
 use Rattle.frames.specs.Read.{readOf, aMessage}
-use Rattle.frames.specs.declared.header.Header.{Header}
 use Rattle.frames.specs.declared.message.Message.{Message}
-use Rattle.frames.proofs.Facts.{part, MessageFacts, message-facts}
+use Rattle.frames.proofs.Facts.{MessageFacts, message-facts}
 use Rattle.record.specs.Size.{mostHeld}
 use Rattle.record.specs.Held.{Entry, holds, stored}
-use Rattle.record.specs.Members.{representative}
-use Rattle.record.specs.Ring.{current, ids, thisRing}
+use Rattle.record.specs.Ring.{current}
 use Rattle.record.specs.declared.log.Log.{Log}
 use Rattle.record.specs.declared.Record.{Record}
 use Rattle.record.proofs.HeldLaws.{HeldSizes, held-sizes}
@@ -25,6 +23,7 @@ use Rattle.station.specs.Deliver.{ringHeader, frameWith}
 use Rattle.station.specs.Message.{isHad, isAhead, heardAs, entryIn, logWithMessage}
 use Rattle.station.specs.declared.answer.Answer.{Answer as Said}
 use Rattle.station.specs.declared.answer.Answer.the-variants.{Kept, Had, Ahead}
+use Rattle.station.proofs.RingFacts.{header-here}
 use Rattle.station.proofs.LevelLaws.{raised-level}
 use Rattle.station.specs.EveryArrival.{Hearable}
 use Rattle.station.proofs.MessageWhole.{Free, kept-free}
@@ -73,9 +72,6 @@ reached-stays has (suc most) level e = rw e
 
 -- ---- the message, as it is held
 
-header-same : (h : Header) (ring representative : ℕ) → ring ≡ h .ring .0 → representative ≡ h .representative → record { ring = record { 0 = ring }; representative = representative } ≡ h
-header-same h ring representative e f = rw (e, f)
-
 module _ (r : Record) (frame : List ℕ) (m : Message) (read : readOf frame ≡ aMessage m) (h : Hearable r m (contentOf frame)) (rewrites : Rewrites frame) where
   abbrev l : Log
   l = current r
@@ -96,12 +92,7 @@ module _ (r : Record) (frame : List ℕ) (m : Message) (read : readOf frame ≡ 
   values = message-facts m (contentOf frame) (h .follows)
 
   pub same-header : ringHeader l ≡ m .header
-  unfolding thisRing
-  same-header =
-      let this = h .this-ring in
-      header-same (m .header) (l .ring .0) (representative (ids l))
-      (sym (eqb-true (m .header .ring .0) (l .ring .0) (part this (λ (f : eqb (m .header .ring .0) (l .ring .0) ≡ false). rw f))))
-      (sym (eqb-true (m .header .representative) (representative (ids l)) (part this (λ (f : eqb (m .header .representative) (representative (ids l)) ≡ false). simp (f, and-false)))))
+  same-header = header-here l (m .header) (h .this-ring)
 
   -- the frame that is held is the one that came
   same-frame : frameWith l n e ≡ frame

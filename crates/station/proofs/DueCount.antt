@@ -95,16 +95,16 @@ module _ (l : Log) (safe n : ℕ) (counted : n ≡ length (due l safe)) where
         few = omega (arith, level-window l marks, marks .safe-first);
       }
 
-  pub run-handed : (log : Log) (size : ℕ) (out out′ : List ℕ)
+  pub run-handed : (handed : Handed) (size : ℕ) (out out′ : List ℕ)
       → Writable l
       → mostDeliveries ≤ length out
-      → log ≡ logWith l (l .level) (l .safe) (record { 0 = l .delivered .0 + n }) (l .held)
-      → size ≡ 0 + length (joined (map (frameOf l) (numbersAfter (l .delivered .0) n)))
+      → handed ≡ record { log = logWith l (l .level) (l .safe) (record { 0 = l .delivered .0 + n }) (l .held); size = size }
+      → size ≡ length (joined (map (frameOf l) (numbersAfter (l .delivered .0) n)))
       → out′ ≡ sets out 0 (joined (map (frameOf l) (numbersAfter (l .delivered .0) n)))
-      → (_≡_ {A = Handed} (record { log = log; size = size }) (record { log = delivered l safe; size = length (handedOut l safe) })) × (out′ ≡ followedBy (handedOut l safe) out)
+      → (handed ≡ record { log = delivered l safe; size = length (handedOut l safe) }) × (out′ ≡ followedBy (handedOut l safe) out)
   unfolding delivered
-  run-handed log size out out′ w room e s o =
-      let whole : size ≡ length (handedOut l safe) = omega (arith, rw due-run at s) in (
-        rw (e, whole, counted),
+  run-handed handed size out out′ w room e s o =
+      let whole : size ≡ length (handedOut l safe) = rw due-run at s in (
+        e ∙ rw (whole, counted),
         rw due-run at o ∙ front-stored (length (handedOut l safe)) (handedOut l safe) out refl (omega (arith, handed-fits l w safe)),
       )

@@ -14,10 +14,9 @@ use Rattle.frames.proofs.Facts.{message-facts}
 use Rattle.record.specs.Size.{mostHeld}
 use Rattle.record.specs.Held.{holds, logWith, stored}
 use Rattle.record.specs.declared.log.Log.{Log}
-use Rattle.record.specs.declared.turn.Turn.{Turn}
 use Rattle.record.specs.declared.Record.{Record}
 use Rattle.record.proofs.WholeFacts.{whole-good}
-use Rattle.station.specs.Reply.{Reply, doneOf, followedBy}
+use Rattle.station.specs.Reply.{Reply, doneOf, followedBy, mostDeliveries}
 use Rattle.station.specs.Level.{reached, levelOf, raised}
 use Rattle.station.specs.Deliver.{handedOut, delivered}
 use Rattle.station.specs.Message.{isHad, isAhead, entryIn, leaveEnded, logWithMessage, messageHeard}
@@ -28,7 +27,7 @@ use Rattle.station.specs.declared.delivering.Handed.{Handed}
 use Rattle.station.specs.declared.done.Done.{Done}
 use Rattle.station.specs.declared.hearing.Told.{Told}
 use Rattle.station.proofs.RingFacts.{ring-header}
-use Rattle.station.proofs.FrameLaws.{Writable, heard-writable}
+use Rattle.station.proofs.FrameLaws.{Writable, heard-writable, handed-fits}
 
 -- ---- the level rises, by `most` more at most
 
@@ -86,54 +85,57 @@ module _ (r : Record) (m : Message) (content : List ℕ) (h : Hearable r m conte
       let there = heard-writable r m content (h .whole-record) (h .follows) (h .member) in
       rw e (rw (had, ahead) at there)
 
--- ---- what is told, by the log that is left
+-- ---- what is told, by what was handed out of the log that is left
 
-abbrev pub toldOf : Record → Log → Told
-toldOf r l =
+abbrev handedOf : Log → Handed
+handedOf l = record { log = delivered l (l .safe .0); size = length (handedOut l (l .safe .0)) }
+
+abbrev toldWith : Record → Handed → Told
+toldWith r handed =
     record {
-      rec = record { own = r .own; log = delivered l (l .safe .0); turn = leaveEnded (r .turn); posts = r .posts };
-      size = length (handedOut l (l .safe .0));
+      rec = record { own = r .own; log = handed .log; turn = leaveEnded (r .turn); posts = r .posts };
+      size = handed .size;
     }
 
-pub told : (r : Record) (l : Log) (handed : Handed) (turn : Turn) (out out′ : List ℕ)
-    → (handed ≡ record { log = delivered l (l .safe .0); size = length (handedOut l (l .safe .0)) }) × (out′ ≡ followedBy (handedOut l (l .safe .0)) out)
-    → turn ≡ leaveEnded (r .turn)
-    → (_≡_ {A = Told} (record { rec = record { own = r .own; log = handed .log; turn = turn; posts = r .posts }; size = handed .size }) (toldOf r l))
-    × (out′ ≡ followedBy (handedOut l (l .safe .0)) out)
-told r l handed turn out out′ h t = (rw (h .0, t), h .1)
+abbrev toldOf : Record → Log → Told
+toldOf r l = toldWith r (handedOf l)
+
+pub handed-short : (l : Log) (handed : Handed) → handed ≡ handedOf l → Writable l → handed .size ≤ mostDeliveries
+handed-short l handed e w = rw e (handed-fits l w (l .safe .0))
 
 -- ---- had, or ahead, or kept
 
 abbrev heardOn : Record → Log → (ℕ → Answer) → Reply
 heardOn r l kind = record { answer = kind (toldOf r l .size); rec = toldOf r l .rec; frames = []; deliveries = handedOut l (l .safe .0) }
 
-leaves-told : (reply : Reply) (r : Record) (l : Log) (kind : ℕ → Answer) (t : Told) (out out′ : List ℕ)
+leaves-told : (reply : Reply) (r : Record) (l : Log) (kind : ℕ → Answer) (handed : Handed) (t : Told) (out out′ : List ℕ)
     → reply ≡ heardOn r l kind
-    → (t ≡ toldOf r l) × (out′ ≡ followedBy (handedOut l (l .safe .0)) out)
+    → t ≡ toldWith r handed
+    → (handed ≡ handedOf l) × (out′ ≡ followedBy (handedOut l (l .safe .0)) out)
     → (_≡_ {A = Done} (record { answer = kind (t .size); rec = t .rec }) (doneOf reply)) × (out′ ≡ followedBy (reply .deliveries) out)
-leaves-told reply r l kind t out out′ e h = rw e (rw (h .0), h .1)
+leaves-told reply r l kind handed t out out′ e f h = rw e (rw (f, h .0), h .1)
 
-module _ (r : Record) (m : Message) (content : List ℕ) (had : Bool) (ask-had : had ≡ isHad (r .log) (m .number .0)) (t : Told) (out out′ : List ℕ) where
+module _ (r : Record) (m : Message) (content : List ℕ) (had : Bool) (ask-had : had ≡ isHad (r .log) (m .number .0)) (handed : Handed) (t : Told) (tells : t ≡ toldWith r handed) (out out′ : List ℕ) where
   pub heard-had : had ≡ true
-      → (t ≡ toldOf r (r .log)) × (out′ ≡ followedBy (handedOut (r .log) (r .log .safe .0)) out)
+      → (handed ≡ handedOf (r .log)) × (out′ ≡ followedBy (handedOut (r .log) (r .log .safe .0)) out)
       → (_≡_ {A = Done} (record { answer = Had (t .size); rec = t .rec }) (doneOf (messageHeard r m content)))
       × (out′ ≡ followedBy (messageHeard r m content .deliveries) out)
   unfolding messageHeard logWithMessage
-  heard-had yes-had = leaves-told (messageHeard r m content) r (r .log) (λ n. Had n) t out out′ (rw (sym ask-had ∙ yes-had))
+  heard-had yes-had = leaves-told (messageHeard r m content) r (r .log) (λ n. Had n) handed t out out′ (rw (sym ask-had ∙ yes-had)) tells
 
   module _ (not-had : had ≡ false) (ahead : Bool) (ask-ahead : ahead ≡ isAhead (r .log) (m .number .0)) where
     pub heard-ahead : ahead ≡ true
-        → (t ≡ toldOf r (r .log)) × (out′ ≡ followedBy (handedOut (r .log) (r .log .safe .0)) out)
+        → (handed ≡ handedOf (r .log)) × (out′ ≡ followedBy (handedOut (r .log) (r .log .safe .0)) out)
         → (_≡_ {A = Done} (record { answer = Ahead (t .size); rec = t .rec }) (doneOf (messageHeard r m content)))
         × (out′ ≡ followedBy (messageHeard r m content .deliveries) out)
     unfolding messageHeard logWithMessage
-    heard-ahead yes-ahead = leaves-told (messageHeard r m content) r (r .log) (λ n. Ahead n) t out out′ (rw (sym ask-had ∙ not-had, sym ask-ahead ∙ yes-ahead))
+    heard-ahead yes-ahead = leaves-told (messageHeard r m content) r (r .log) (λ n. Ahead n) handed t out out′ (rw (sym ask-had ∙ not-had, sym ask-ahead ∙ yes-ahead)) tells
 
     pub heard-kept : (kept : Log)
         → ahead ≡ false
         → kept ≡ raised (stored (r .log) (m .number .0) (entryIn m content))
-        → (t ≡ toldOf r kept) × (out′ ≡ followedBy (handedOut kept (kept .safe .0)) out)
+        → (handed ≡ handedOf kept) × (out′ ≡ followedBy (handedOut kept (kept .safe .0)) out)
         → (_≡_ {A = Done} (record { answer = Kept (t .size); rec = t .rec }) (doneOf (messageHeard r m content)))
         × (out′ ≡ followedBy (messageHeard r m content .deliveries) out)
     unfolding messageHeard logWithMessage
-    heard-kept kept not-ahead e = leaves-told (messageHeard r m content) r kept (λ n. Kept n) t out out′ (rw (sym ask-had ∙ not-had, sym ask-ahead ∙ not-ahead, e))
+    heard-kept kept not-ahead e = leaves-told (messageHeard r m content) r kept (λ n. Kept n) handed t out out′ (rw (sym ask-had ∙ not-had, sym ask-ahead ∙ not-ahead, e)) tells

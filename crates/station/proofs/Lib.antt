@@ -27,6 +27,7 @@ pub mod MarkLaws
 pub mod PutFrames
 pub mod DueCount
 pub mod HearLaws
+pub mod KeptLaws
 pub mod ArriveLaws
 pub mod SentLaws
 pub mod Broadcast

@@ -164,6 +164,13 @@ pub run-ends : (last n i : ℕ) → n ≤ i → runFrom last n i ≡ []
 unfolding numbersAfter
 run-ends last n i h = let none : n - i ≡ 0 = omega arith in rw none
 
+-- no number, and nothing is put
+pub none-put : (l : Log) (last n at : ℕ) (out : List ℕ)
+    → n ≡ 0
+    → (at ≡ at + length (joined (map (frameOf l) (numbersAfter last n)))) × (out ≡ sets out at (joined (map (frameOf l) (numbersAfter last n))))
+unfolding numbersAfter flatten
+none-put l last n at out e = rw e (omega arith, refl)
+
 module _ (header : Header) (h : Held) (last n : ℕ) (out : List ℕ) (at : ℕ) where
   pub run-starts : Each (Frameable header h) (numbersAfter last n)
       → at + longestMessage * n ≤ length out

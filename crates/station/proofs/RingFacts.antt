@@ -1,16 +1,18 @@
--- A whole record's ring: its members' ids, one's own among them, and the header of its frames.
+-- A ring: its members' ids, one's own among them, and the header of its frames.
 use Prim.Native.Nat.{ℕ}
-use mathlib.Core.Path.{_≡_}
+use mathlib.Core.Path.{_≡_, sym}
 use mathlib.Core.Logic.{_≢_}
-use mathlib.Core.Bool.{true, false}
-use borrow.Author.Tests.{leb-true}
+use mathlib.Core.Bool.{true, false, and-false}
+use borrow.Author.Tests.{leb-true, eqb-true}
 use native.Mathlib.Omega.{arith}
-use lib.Dec.{leb}
+use lib.Dec.{leb, eqb}
 use Rattle.frames.specs.Number.{isId}
 use Rattle.frames.specs.Header.{headerFollows}
+use Rattle.frames.specs.declared.header.Header.{Header}
 use Rattle.frames.proofs.Facts.{part}
-use Rattle.record.specs.Members.{isMember}
-use Rattle.record.specs.Ring.{current, ids}
+use Rattle.record.specs.Members.{isMember, representative}
+use Rattle.record.specs.Ring.{current, ids, thisRing}
+use Rattle.record.specs.declared.log.Log.{Log}
 use Rattle.record.specs.declared.Record.{Record}
 use Rattle.record.proofs.MemberLaws.{member-passes, FoundableFacts, foundable-facts}
 use Rattle.record.proofs.WholeFacts.{RecordGood}
@@ -32,3 +34,15 @@ module _ (r : Record) (good : RecordGood r) where
 
   pub ring-header : headerFollows (ringHeader (current r)) ≡ true
   ring-header = header-follows (ids (current r)) (r .own) (current r .ring .0) (good .founded)
+
+-- ---- a header that passes 13 is that of this ring's frames
+
+header-same : (h : Header) (ring first : ℕ) → ring ≡ h .ring .0 → first ≡ h .representative → record { ring = record { 0 = ring }; representative = first } ≡ h
+header-same h ring first e f = rw (e, f)
+
+pub header-here : (l : Log) (h : Header) → thisRing (l .ring .0) (ids l) h ≡ true → ringHeader l ≡ h
+unfolding thisRing
+header-here l h this =
+    header-same h (l .ring .0) (representative (ids l))
+    (sym (eqb-true (h .ring .0) (l .ring .0) (part this (λ (f : eqb (h .ring .0) (l .ring .0) ≡ false). rw f))))
+    (sym (eqb-true (h .representative) (representative (ids l)) (part this (λ (f : eqb (h .representative) (representative (ids l)) ≡ false). simp (f, and-false)))))

@@ -16,7 +16,9 @@ use Rattle.frames.specs.declared.token.Blocker.the-variants.{Nobody, Member}
 use Rattle.record.specs.Size.{heldContents}
 use Rattle.record.specs.Held.{placeOf, entryAt}
 use Rattle.record.specs.declared.log.Held.{Held}
-use Rattle.station.specs.Deliver.{frameOf, joined}
+use Rattle.record.specs.declared.log.Log.{Log}
+use Rattle.station.specs.Deliver.{ringHeader, entryOf, frameOf, joined}
+use Rattle.station.specs.Message.{entryIn}
 use Rattle.station.specs.Visit.{Visit, log, unanswered, repeats, newCount, news, logNow, ownOrNobody, aru′, blocker′, safe′, deaf, broadcasts, turn′}
 use Rattle.station.specs.declared.requests.Requests.{Requests}
 use Rattle.station.specs.declared.broadcasting.Sent.{Sent}
@@ -24,9 +26,6 @@ use Rattle.station.specs.declared.marks.Reach.{Reach}
 use Rattle.station.specs.declared.forwarding.Forwarded.{Forwarded}
 
 -- ---- a held message's frame, from the arrays that hold it
-
-abbrev pub heldOf : List ℕ → List ℕ → List ℕ → List ℕ → Held
-heldOf senders services lengths contents = record { senders = senders; services = services; lengths = lengths; contents = contents }
 
 abbrev pub heldMessage : Header → Held → ℕ → Message
 heldMessage header h n = record { header = header; sender = entryAt h (placeOf n) .sender; number = record { 0 = n }; service = entryAt h (placeOf n) .service }
@@ -39,6 +38,12 @@ pub record Frameable (header : Header) (h : Held) (n : ℕ) : Type 0 where
   pub follows : messageFollows (heldMessage header h n) (entryAt h (placeOf n) .content) ≡ true
   pub short : getD (h .lengths) (placeOf n) 0 ≤ mostContent
   pub long : length (h .contents) ≡ heldContents
+
+-- ---- a message that has just been kept: it is held as it came
+pub record JustKept (l : Log) (m : Message) (content : List ℕ) : Type 0 where
+  pub header : ringHeader l ≡ m .header
+  pub entry : entryOf l (m .number .0) ≡ entryIn m content
+  pub follows : messageFollows m content ≡ true
 
 -- ---- a list of numbers in a token's places, zero past them
 unfoldable pub listed : List ℕ → Requests

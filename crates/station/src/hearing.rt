@@ -1,21 +1,18 @@
 // A message arrives: it is kept, or was had, or is too far ahead. The content is the part of the frame
-// that the reader's `content` gives; it goes on as it is to where it is held.
+// that the reader's `content` gives; it goes on as it is to where it is held and to where it is delivered.
 ghost use mathlib.Core.Path.{_≡_};
-ghost use mathlib.Core.Bool.{true};
 ghost use Prim.Native.Nat.{_≤_};
 ghost use lib.ListN.{length};
 ghost use Rattle.frames.specs.Number.{mostNumber};
 ghost use Rattle.frames.specs.Layout.{mostContent};
-ghost use Rattle.frames.specs.Header.{headerFollows};
 ghost use Rattle.record.specs.Held.{stored};
-ghost use Rattle.record.proofs.WholeFacts.{LogGood};
 ghost use Rattle.station.specs.Reply.{doneOf, followedBy, mostDeliveries};
 ghost use Rattle.station.specs.Level.{raised};
-ghost use Rattle.station.specs.Deliver.{ringHeader, handedOut, delivered};
 ghost use Rattle.station.specs.Message.{isHad, isAhead, entryIn, leaveEnded, messageHeard};
 ghost use Rattle.station.specs.EveryArrival.{Hearable};
 use crate::answer::Answer;
 use crate::delivering;
+use crate::delivering::Handed;
 use crate::done::Done;
 use crate::level;
 use frames::Message;
@@ -66,22 +63,19 @@ fn leave_ended(t: Turn) -> Turn
     }
 }
 
-// The record with another log once that has delivered, and how many bytes it delivered.
+// The record once its log has delivered, and how many bytes it delivered.
 struct Told {
     rec: Record,
     size: u16,
 }
 
-fn tell(rec: Record, l: Log, deliveries: &mut [u8]) -> Told
-    requires { ⌜ LogGood l × (headerFollows (ringHeader l) ≡ true) × (mostDeliveries ≤ length (now deliveries)) ⌝ }
-    ensures { λ r. ⌜
-        (r ≡ record {
-          rec = record { own = rec .own; log = delivered l (l .safe .0); turn = leaveEnded (rec .turn); posts = rec .posts };
-          size = length (handedOut l (l .safe .0));
-        })
-        × (now (deliveries .exit) ≡ followedBy (handedOut l (l .safe .0)) (now (deliveries .entry))) ⌝ }
+fn tell(rec: Record, handed: Handed) -> Told
+    requires { ⌜ handed .size ≤ mostDeliveries ⌝ }
+    ensures { λ r. ⌜ r ≡ record {
+      rec = record { own = rec .own; log = handed .log; turn = leaveEnded (rec .turn); posts = rec .posts };
+      size = handed .size;
+    } ⌝ }
 {
-    let handed = delivering::hand_out(l, l.safe, deliveries);
     let log = handed.log;
     let turn = leave_ended(rec.turn);
     let posts = rec.posts;
@@ -108,7 +102,7 @@ pub fn hear(rec: Record, m: Message, content: &[u8], deliveries: &mut [u8]) -> D
 {
     let l = rec.log;
     if is_had(l, m.number) {
-        let told = tell(rec, l, deliveries);
+        let told = tell(rec, delivering::hand_out(l, l.safe, deliveries));
         let after = told.rec;
         return Done {
             answer: Answer::Had(told.size),
@@ -116,14 +110,17 @@ pub fn hear(rec: Record, m: Message, content: &[u8], deliveries: &mut [u8]) -> D
         };
     }
     if is_ahead(l, m.number) {
-        let told = tell(rec, l, deliveries);
+        let told = tell(rec, delivering::hand_out(l, l.safe, deliveries));
         let after = told.rec;
         return Done {
             answer: Answer::Ahead(told.size),
             rec: after,
         };
     }
-    let told = tell(rec, keep(l, m, content), deliveries);
+    let told = tell(
+        rec,
+        delivering::hand_out_kept(keep(l, m, content), m, content, deliveries),
+    );
     let after = told.rec;
     Done {
         answer: Answer::Kept(told.size),

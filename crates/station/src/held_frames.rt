@@ -11,12 +11,12 @@ ghost use Rattle.frames.specs.Layout.{longestMessage};
 ghost use Rattle.frames.specs.Header.{headerFollows};
 ghost use Rattle.frames.specs.Message.{messageFollows, messageBytes};
 ghost use Rattle.record.specs.Size.{mostMembers};
-ghost use Rattle.record.specs.Held.{holds};
+ghost use Rattle.record.specs.Held.{holds, heldOf};
 ghost use Rattle.record.proofs.WholeFacts.{LogGood};
 ghost use Rattle.station.specs.Deliver.{ringHeader, frameOf, joined};
 ghost use Rattle.station.specs.Visit.{numbersAfter};
 ghost use Rattle.station.specs.EveryArrival.{Each};
-ghost use Rattle.station.specs.Steps.{heldOf, heldFrame, Frameable};
+ghost use Rattle.station.specs.Steps.{heldFrame, Frameable};
 use frames::Header;
 use frames::Message;
 use frames::MessageNumber;
@@ -36,7 +36,8 @@ pub fn ring_header(l: Log) -> Header
     }
 }
 
-fn put_message(m: Message, content: &[u8], out: &mut [u8], at: usize) -> usize
+// The frame of a message, its content wherever that stands.
+pub fn put_message(m: Message, content: &[u8], out: &mut [u8], at: usize) -> usize
     requires { ⌜
         (messageFollows m (now content) ≡ true)
         × (at + length (messageBytes m (now content)) ≤ length (now out)) ⌝ }
@@ -123,6 +124,9 @@ pub fn put_run(l: Log, last: MessageNumber, n: u32, out: &mut [u8], at: usize) -
         (r ≡ at + length (joined (map (frameOf l) (numbersAfter (last .0) n))))
         × (now (out .exit) ≡ sets (now (out .entry)) at (joined (map (frameOf l) (numbersAfter (last .0) n)))) ⌝ }
 {
+    if n == 0 {
+        return at;
+    }
     let held = l.held;
     let header = ring_header(l);
     let mut at = at;

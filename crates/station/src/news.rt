@@ -4,26 +4,13 @@ ghost use mathlib.Core.Bool.{true};
 ghost use Prim.Native.Nat.{_+_, _≤_};
 ghost use lib.ListN.{take};
 ghost use Rattle.frames.specs.Number.{mostNumber};
-ghost use Rattle.record.specs.Held.{stored};
-ghost use Rattle.record.specs.Posts.{postAt, waiting};
+ghost use Rattle.record.specs.Posts.{waiting};
 ghost use Rattle.record.specs.Whole.{postsInRange};
-ghost use Rattle.station.specs.Visit.{sentBy, withNews};
+ghost use Rattle.station.specs.Visit.{withNews};
 use frames::MessageNumber;
+use record::Held;
 use record::Log;
 use record::Posts;
-
-// The post at a place is held under a number.
-fn hold_post(l: Log, own: u16, n: MessageNumber, posts: Posts, place: usize) -> Log
-    requires { ⌜ (postsInRange posts ≡ true) × (place ≤ 15) ⌝ }
-    ensures { λ r. ⌜ r ≡ stored l (n .0) (sentBy own (postAt posts place)) ⌝ }
-{
-    let services = posts.services;
-    let lengths = posts.lengths;
-    let contents = posts.contents;
-    let from = frames::MOST_CONTENT * place;
-    let end = from + lengths[place] as usize;
-    record::store(l, n, own, services[place], &contents[from..end])
-}
 
 // The n oldest posts are held, each under the highest number + 1. Ruled out: the newest post first; a
 // number left out.
@@ -31,17 +18,35 @@ pub fn hold_news(l: Log, own: u16, highest: MessageNumber, posts: Posts, n: u32)
     requires { ⌜ (postsInRange posts ≡ true) × (n ≤ posts .count) × (highest .0 + n ≤ mostNumber) ⌝ }
     ensures { λ r. ⌜ r ≡ withNews l own (highest .0) (take n (waiting posts)) ⌝ }
 {
-    let mut log = l;
+    let posted_services = posts.services;
+    let posted_lengths = posts.lengths;
+    let posted_contents = posts.contents;
+    let mut senders = l.held.senders;
+    let mut services = l.held.services;
+    let mut lengths = l.held.lengths;
+    let mut contents = l.held.contents;
     let mut i = 0;
     while i < n {
-        log = hold_post(
-            log,
-            own,
+        let place = i as usize;
+        let from = frames::MOST_CONTENT * place;
+        let end = from + posted_lengths[place] as usize;
+        record::place_message(
+            &mut senders,
+            &mut services,
+            &mut lengths,
+            &mut contents,
             MessageNumber(highest.0 + i + 1),
-            posts,
-            i as usize,
+            own,
+            posted_services[place],
+            &posted_contents[from..end],
         );
         i += 1;
     }
-    log
+    let held = Held {
+        senders,
+        services,
+        lengths,
+        contents,
+    };
+    record::log_with(l, l.level, l.safe, l.delivered, held)
 }

@@ -1,7 +1,7 @@
 use native.Mathlib.Omega.{arith}
 use borrow.Author.Needs.{needs}
 use Rattle.record.specs.declared.log.Held.{Held}
-use Rattle.station.specs.Steps.{heldOf}
+use Rattle.record.specs.Held.{heldOf}
 use Rattle.station.proofs.PutFrames.{held-content, held-short}
 use Rattle.station.proofs.held_frames.put_held.Statement.{statement}
 use Rattle.station.proofs.held_frames.put_held.Tie as tie

@@ -2,7 +2,7 @@ use Prim.Native.Nat.{_≤_, _-_}
 use borrow.Author.Needs.{needs}
 use Rattle.station.specs.Visit.{numbersAfter}
 use Rattle.station.proofs.FrameLaws.{Writable}
-use Rattle.station.proofs.PutFrames.{run-frameable, put-log, Putting, putting-next, putting-goes, putting-ends, runFrom, run-starts, run-next, run-ends}
+use Rattle.station.proofs.PutFrames.{run-frameable, put-log, Putting, putting-next, putting-goes, putting-ends, runFrom, run-starts, run-next, run-ends, none-put}
 use Rattle.station.proofs.held_frames.put_run.Statement.{statement}
 use Rattle.station.proofs.held_frames.put_run.Tie as tie
 
@@ -15,12 +15,15 @@ abbrev μ-loop : tie.MeasureT-loop
 writable : (c : tie.Start Inv-loop μ-loop) → Writable (c .args .l)
 writable c = record { log = c .pre .0; header = c .pre .1 }
 
+returns : tie.Need-returns Inv-loop μ-loop
+returns c = none-put (c .before .before .args .l) _ _ _ _ (c .if1 .taken)
+
 ring-header-requires : tie.Need-ring-header-requires Inv-loop μ-loop
-ring-header-requires c κs = c .before .before .pre .0 .ready .members .few
+ring-header-requires c κs = c .before .before .before .pre .0 .ready .members .few
 
 loop-holds : tie.Need-loop-holds Inv-loop μ-loop
 loop-holds c =
-    let start = c .before .before .before in
+    let start = c .before .before .before .before in
     (search needs, run-starts _ _ _ _ _ _ (run-frameable (start .args .l) (writable start) _ (c .ring-header .ensures) _ _ (start .pre .2)) (start .pre .4))
 
 put-held-requires : tie.Need-put-held-requires Inv-loop μ-loop
@@ -35,14 +38,14 @@ loop-again c = (
 same-length : tie.Need-same-length Inv-loop μ-loop
 same-length c = c .before .loop .inv .1 .long
 
-returns : tie.Need-returns Inv-loop μ-loop
-returns c =
-    let start = c .before .before .before .before .before in
+returns-2 : tie.Need-returns-2 Inv-loop μ-loop
+returns-2 c =
+    let start = c .before .before .before .before .before .before in
     put-log (start .args .l) (writable start) _ (c .before .before .ring-header .ensures) (numbersAfter (start .args .last .0) (start .args .n)) (start .args .out .now) _ _ _
     (putting-ends (c .before .loop .inv .1) (run-ends _ _ _ (c .loop-test .left)))
 
 pub put-run-spec : {M : Type 1} → statement M
 put-run-spec =
     tie.close
-    (tie.spec Inv-loop μ-loop ring-header-requires loop-holds (λ c. search needs) (λ c. search needs) put-held-requires
-    (λ c. search needs) (λ c. search needs) loop-again same-length returns)
+    (tie.spec Inv-loop μ-loop returns ring-header-requires loop-holds (λ c. search needs) (λ c. search needs) put-held-requires
+    (λ c. search needs) (λ c. search needs) loop-again same-length returns-2)
