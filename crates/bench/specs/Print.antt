@@ -15,7 +15,7 @@ deliveryHead place m = field place ++ field (m .number .0) ++ field (m .sender) 
 unfoldable pub deliveryLine : ℕ → Message → List ℕ → List ℕ
 deliveryLine place m content = deliveryHead place m ++ content ++ ascii "\n"
 
-unfoldable pub numberLine : ℕ → List ℕ
+abbrev pub numberLine : ℕ → List ℕ
 numberLine n = decimal n ++ ascii "\n"
 
 -- `no` and the question's number

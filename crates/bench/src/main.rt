@@ -34,26 +34,10 @@ fn start() -> Script {
 }
 
 // What a whole line asks for is done, with the bytes that it kept.
-fn act(
-    bench: Bench,
-    ended: Line,
-    kept: &[u8],
-    list: &mut [u8],
-    records: &mut [u8],
-    token: &mut [u8],
-    out: &mut [u8],
-) -> Script {
+fn act(bench: Bench, ended: Line, kept: &[u8], records: &mut [u8], out: &mut [u8]) -> Script {
     let fields = ended.fields;
     let command = command::end_line(ended);
-    let b = run::run(
-        bench,
-        command,
-        kept::first(kept, fields.used),
-        list,
-        records,
-        token,
-        out,
-    );
+    let b = run::run(bench, command, kept::first(kept, fields.used), records, out);
     let r = b.ring;
     let o = b.output;
     Script {
@@ -67,30 +51,15 @@ fn act(
     }
 }
 
-fn end_line(
-    s: Script,
-    kept: &mut [u8],
-    list: &mut [u8],
-    records: &mut [u8],
-    token: &mut [u8],
-    out: &mut [u8],
-) -> Script {
+fn end_line(s: Script, kept: &mut [u8], records: &mut [u8], out: &mut [u8]) -> Script {
     let bench = s.bench;
     let ended = line::ended(s.line, kept);
-    act(bench, ended, kept, list, records, token, out)
+    act(bench, ended, kept, records, out)
 }
 
-fn take_byte(
-    s: Script,
-    b: u8,
-    kept: &mut [u8],
-    list: &mut [u8],
-    records: &mut [u8],
-    token: &mut [u8],
-    out: &mut [u8],
-) -> Script {
+fn take_byte(s: Script, b: u8, kept: &mut [u8], records: &mut [u8], out: &mut [u8]) -> Script {
     if b == b'\n' {
-        return end_line(s, kept, list, records, token, out);
+        return end_line(s, kept, records, out);
     }
     let bench = s.bench;
     Script {
@@ -104,15 +73,13 @@ fn take_bytes(
     s: Script,
     input: &[u8],
     kept: &mut [u8],
-    list: &mut [u8],
     records: &mut [u8],
-    token: &mut [u8],
     out: &mut [u8],
 ) -> Script {
     let mut s = s;
     let mut i = 0;
     while i < input.len() {
-        s = take_byte(s, input[i], kept, list, records, token, out);
+        s = take_byte(s, input[i], kept, records, out);
         i += 1;
     }
     s
@@ -150,9 +117,7 @@ fn take_turn(
     s: Script,
     input: &mut [u8],
     kept: &mut [u8],
-    list: &mut [u8],
     records: &mut [u8],
-    token: &mut [u8],
     out: &mut [u8],
 ) -> Script {
     let s = shown(s, out);
@@ -166,7 +131,7 @@ fn take_turn(
             is_over: true,
         };
     }
-    take_bytes(s, kept::first(input, n), kept, list, records, token, out)
+    take_bytes(s, kept::first(input, n), kept, records, out)
 }
 
 // A proved loop has to end, and nothing says that the input does. So it counts its turns down, from a
@@ -175,15 +140,13 @@ fn read_all(
     s: Script,
     input: &mut [u8],
     kept: &mut [u8],
-    list: &mut [u8],
     records: &mut [u8],
-    token: &mut [u8],
     out: &mut [u8],
 ) -> Script {
     let mut s = s;
     let mut turns = u64::MAX;
     while turns > 0 {
-        s = take_turn(s, input, kept, list, records, token, out);
+        s = take_turn(s, input, kept, records, out);
         if s.is_over {
             return s;
         }
@@ -200,20 +163,10 @@ const OUTPUT_ROOM: usize = 65536;
 fn main() {
     let mut input = [0u8; INPUT_ROOM];
     let mut kept = [0u8; kept::KEPT_ROOM];
-    let mut list = [0u8; kept::IDS_ROOM];
     let mut records = [0u8; RECORDS_ROOM];
-    let mut token = [0u8; frames::LONGEST_TOKEN];
     let mut out = [0u8; OUTPUT_ROOM];
-    let s = read_all(
-        start(),
-        &mut input,
-        &mut kept,
-        &mut list,
-        &mut records,
-        &mut token,
-        &mut out,
-    );
-    let s = end_line(s, &mut kept, &mut list, &mut records, &mut token, &mut out);
+    let s = read_all(start(), &mut input, &mut kept, &mut records, &mut out);
+    let s = end_line(s, &mut kept, &mut records, &mut out);
     let b = s.bench;
     output::flush(&out, b.output);
 }

@@ -1,17 +1,24 @@
 // The lines that the bench prints.
-ghost use mathlib.Core.Path.{_≡_};
-ghost use Rattle.text.specs.Text.{Put};
+ghost use mathlib.Core.List.{_++_};
+ghost use Rattle.text.specs.Text.{Put, decimal};
 ghost use Rattle.bench.specs.Print.{field, deliveryHead, deliveryLine, numberLine, refusalLine};
 use crate::output;
 use crate::output::Output;
 use frames::Answer;
 use frames::Message;
 
+// A number, and what ends it.
+fn put_ended(out: &mut [u8], at: usize, n: u32, end: &[u8]) -> usize
+    ensures { λ r. ⌜ Put (now (out .entry)) at (decimal n ++ now (end .entry)) r (now (out .exit)) ⌝ }
+{
+    let at = text::put_decimal(out, at, n);
+    text::put_bytes(out, at, end)
+}
+
 fn put_field(out: &mut [u8], at: usize, n: u32) -> usize
     ensures { λ r. ⌜ Put (now (out .entry)) at (field n) r (now (out .exit)) ⌝ }
 {
-    let at = text::put_decimal(out, at, n);
-    text::put_bytes(out, at, b" ")
+    put_ended(out, at, n, b" ")
 }
 
 // Place, message number, sender, service; a space after each.
@@ -35,8 +42,7 @@ fn put_delivery(out: &mut [u8], at: usize, place: u32, m: Message, content: &[u8
 fn put_number(out: &mut [u8], at: usize, n: u32) -> usize
     ensures { λ r. ⌜ Put (now (out .entry)) at (numberLine n) r (now (out .exit)) ⌝ }
 {
-    let at = text::put_decimal(out, at, n);
-    text::put_bytes(out, at, b"\n")
+    put_ended(out, at, n, b"\n")
 }
 
 fn put_refusal(out: &mut [u8], at: usize, number: u16) -> usize

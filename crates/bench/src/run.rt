@@ -31,16 +31,9 @@ fn no_place(b: Bench) -> Bench {
     wrong(b, Fault::NoPlace)
 }
 
-fn found(
-    b: Bench,
-    number: u32,
-    ids: &[u8],
-    list: &mut [u8],
-    records: &mut [u8],
-    token: &mut [u8],
-    out: &mut [u8],
-) -> Bench {
-    let answer = ring::found_ring(records, ids, number, token);
+fn found(b: Bench, number: u32, ids: &[u8], records: &mut [u8], out: &mut [u8]) -> Bench {
+    let mut token = [0u8; frames::LONGEST_TOKEN];
+    let answer = ring::found_ring(records, ids, number, &mut token);
     let r = b.ring;
     let o = b.output;
     if answer.refusal != 0 {
@@ -51,7 +44,7 @@ fn found(
         };
     }
     Bench {
-        ring: stations::founded(list, ids, answer),
+        ring: stations::founded(ids, answer, token),
         output: o,
         line: b.line,
     }
@@ -87,7 +80,6 @@ fn arrive(
     without: usize,
     frame: &[u8],
     records: &mut [u8],
-    token: &mut [u8],
     out: &mut [u8],
 ) -> Bench {
     let mut frames = [0u8; station::MOST_FRAMES];
@@ -106,82 +98,47 @@ fn arrive(
         b.output,
     );
     Bench {
-        ring: stations::renewed(r, answer, &frames, token),
+        ring: stations::renewed(r, answer, &frames),
         output: o,
         line: b.line,
     }
 }
 
 // The newest token to its addressee; nothing reaches the place `without`.
-fn turn(
-    b: Bench,
-    without: usize,
-    list: &[u8],
-    records: &mut [u8],
-    token: &mut [u8],
-    out: &mut [u8],
-) -> Bench {
+fn turn(b: Bench, without: usize, records: &mut [u8], out: &mut [u8]) -> Bench {
     let r = b.ring;
-    let mut newest = [0u8; frames::LONGEST_TOKEN];
-    let size = stations::copy(&mut newest, kept::first(token, r.token_size));
-    let place = stations::addressee(r, list, token);
+    let token = r.token;
+    let size = r.token_size;
+    let place = stations::addressee(r);
     if place == without {
         return b;
     }
-    arrive(
-        b,
-        place,
-        without,
-        kept::first(&newest, size),
-        records,
-        token,
-        out,
-    )
+    arrive(b, place, without, kept::first(&token, size), records, out)
 }
 
 // No place is without the token.
-fn turn_for_all(
-    b: Bench,
-    list: &[u8],
-    records: &mut [u8],
-    token: &mut [u8],
-    out: &mut [u8],
-) -> Bench {
+fn turn_for_all(b: Bench, records: &mut [u8], out: &mut [u8]) -> Bench {
     let r = b.ring;
     if r.members == 0 {
         return wrong(b, Fault::NoRing);
     }
-    turn(b, r.members, list, records, token, out)
+    turn(b, r.members, records, out)
 }
 
-fn turn_without(
-    b: Bench,
-    without: usize,
-    list: &[u8],
-    records: &mut [u8],
-    token: &mut [u8],
-    out: &mut [u8],
-) -> Bench {
+fn turn_without(b: Bench, without: usize, records: &mut [u8], out: &mut [u8]) -> Bench {
     let r = b.ring;
     if r.members <= without {
         return no_place(b);
     }
-    turn(b, without, list, records, token, out)
+    turn(b, without, records, out)
 }
 
-fn frame(
-    b: Bench,
-    place: usize,
-    frame: &[u8],
-    records: &mut [u8],
-    token: &mut [u8],
-    out: &mut [u8],
-) -> Bench {
+fn frame(b: Bench, place: usize, frame: &[u8], records: &mut [u8], out: &mut [u8]) -> Bench {
     let r = b.ring;
     if r.members <= place {
         return no_place(b);
     }
-    arrive(b, place, r.members, frame, records, token, out)
+    arrive(b, place, r.members, frame, records, out)
 }
 
 fn write(b: Bench, count: u16, out: &mut [u8]) -> Bench {
@@ -195,24 +152,14 @@ fn write(b: Bench, count: u16, out: &mut [u8]) -> Bench {
 }
 
 // A command, with the bytes that its line kept.
-pub fn run(
-    b: Bench,
-    command: Command,
-    kept: &[u8],
-    list: &mut [u8],
-    records: &mut [u8],
-    token: &mut [u8],
-    out: &mut [u8],
-) -> Bench {
+pub fn run(b: Bench, command: Command, kept: &[u8], records: &mut [u8], out: &mut [u8]) -> Bench {
     match command {
         Command::Nothing => b,
-        Command::Found(number) => found(b, number, kept, list, records, token, out),
+        Command::Found(number) => found(b, number, kept, records, out),
         Command::Post { place, service } => post(b, place as usize, service, kept, records, out),
-        Command::Turn => turn_for_all(b, list, records, token, out),
-        Command::TurnWithout(place) => {
-            turn_without(b, place as usize, list, records, token, out)
-        }
-        Command::Arrive(place) => frame(b, place as usize, kept, records, token, out),
+        Command::Turn => turn_for_all(b, records, out),
+        Command::TurnWithout(place) => turn_without(b, place as usize, records, out),
+        Command::Arrive(place) => frame(b, place as usize, kept, records, out),
         Command::Write(count) => write(b, count, out),
         Command::Wrong(fault) => wrong(b, fault),
     }

@@ -1,26 +1,30 @@
-// The ring that the script has founded, in bytes that main owns: records by place, the list of members,
-// and the newest token.
+// The ring that the script has founded. Its records stand by place in bytes that main owns.
 use crate::kept;
 use crate::number;
 use crate::output::Output;
 use crate::print;
 use station::Outcome;
 
-// How many members the ring has, 0 before there is one, and how long the newest token is.
+// How many members the ring has, 0 before there is one, and their list, two bytes an id; how long the
+// newest token is, and its bytes.
 pub struct Ring {
     pub members: usize,
+    pub list: [u8; kept::IDS_ROOM],
     pub token_size: usize,
+    pub token: [u8; frames::LONGEST_TOKEN],
 }
 
 pub fn no_ring() -> Ring {
     Ring {
         members: 0,
+        list: [0u8; kept::IDS_ROOM],
         token_size: 0,
+        token: [0u8; frames::LONGEST_TOKEN],
     }
 }
 
 // Copies bytes to the front of a buffer, and answers how many; none where there is no room.
-pub fn copy(to: &mut [u8], bytes: &[u8]) -> usize {
+fn copy(to: &mut [u8], bytes: &[u8]) -> usize {
     if to.len() < bytes.len() {
         return 0;
     }
@@ -28,22 +32,28 @@ pub fn copy(to: &mut [u8], bytes: &[u8]) -> usize {
     bytes.len()
 }
 
-// A ring that was founded on this list.
-pub fn founded(list: &mut [u8], ids: &[u8], answer: Outcome) -> Ring {
+// A ring that was founded on this list, and its first token.
+pub fn founded(ids: &[u8], answer: Outcome, token: [u8; frames::LONGEST_TOKEN]) -> Ring {
+    let mut list = [0u8; kept::IDS_ROOM];
+    let size = copy(&mut list, ids);
     Ring {
-        members: copy(list, ids) / 2,
+        members: size / 2,
+        list,
         token_size: answer.frames as usize,
+        token,
     }
 }
 
 // The place that the newest token is addressed to.
-pub fn addressee(r: Ring, list: &[u8], token: &[u8]) -> usize {
+pub fn addressee(r: Ring) -> usize {
     let members = r.members;
     let size = r.token_size;
-    if list.len() / 2 < members {
+    let list = r.list;
+    let token = r.token;
+    if kept::IDS_ROOM / 2 < members {
         return members;
     }
-    ring::addressee_place(&list[0..2 * members], kept::first(token, size))
+    ring::addressee_place(kept::first(&list, 2 * members), kept::first(&token, size))
 }
 
 // A visit's broadcasts reach one place, unless it is the visited one or the one that nothing reaches.
@@ -134,13 +144,18 @@ pub fn hand_on(
 }
 
 // A token written becomes the newest.
-pub fn renewed(r: Ring, answer: Outcome, frames: &[u8], token: &mut [u8]) -> Ring {
+pub fn renewed(r: Ring, answer: Outcome, frames: &[u8]) -> Ring {
     if answer.frames == 0 {
         return r;
     }
     let written = kept::first(frames, answer.frames as usize);
+    let list = r.list;
+    let mut token = [0u8; frames::LONGEST_TOKEN];
+    let size = copy(&mut token, ring::newest_token(written));
     Ring {
         members: r.members,
-        token_size: copy(token, ring::newest_token(written)),
+        list,
+        token_size: size,
+        token,
     }
 }

@@ -1,5 +1,5 @@
--- What the code of a visit hands from one step to the next, in the visit's own terms. Nothing new is said here: each field is a
--- quantity of Visit.antt.
+-- What arrival's code hands from one step to the next, in the terms of Message.antt and Visit.antt. Nothing new is said here: each field
+-- is a quantity of theirs, and each condition follows from theirs.
 use Prim.Native.Nat.{ℕ, _-_, _≤_}
 use mathlib.Core.Path.{_≡_}
 use mathlib.Core.Bool.{true, _||_, cond}
