@@ -2,7 +2,8 @@
 import random
 import struct
 
-from model import LIMIT, Bench, Message, Refused, Station, Token, claim, packed, read, write
+from bench_model import Bench
+from model import LIMIT, Message, Refused, Station, Token, claim, packed, read, write
 
 
 def message(number=1, content=b"x", sender=7, service=0, ring=4, rep=3):
