@@ -1,0 +1,41 @@
+//! The record's layout: the place of each field, as docs/RECORD.md has them, and the specification's
+//! bounds on what stands there.
+
+/// Bytes of a station's record.
+pub const LEN: usize = 3425;
+
+pub const OWN: usize = 0;
+pub const RING: usize = 2;
+pub const MEMBER_COUNT: usize = 6;
+pub const MEMBERS: usize = 7;
+pub const LEVEL: usize = 23;
+pub const SAFE: usize = 27;
+pub const DELIVERED: usize = 31;
+pub const HELD_SENDERS: usize = 35;
+pub const HELD_SERVICES: usize = 99;
+pub const HELD_LENGTHS: usize = 163;
+pub const HELD_CONTENTS: usize = 195;
+pub const ARU: usize = 2243;
+pub const ARU_BEFORE: usize = 2247;
+pub const TOKEN_NUMBER: usize = 2251;
+pub const LAST_COUNT: usize = 2255;
+pub const STALL: usize = 2256;
+pub const TOKEN_SIZE: usize = 2257;
+pub const TOKEN: usize = 2258;
+pub const POST_COUNT: usize = 2352;
+pub const POST_SERVICES: usize = 2353;
+pub const POST_LENGTHS: usize = 2385;
+pub const POST_CONTENTS: usize = 2401;
+
+/// Places for held messages: the numbers from the safe mark + 1 to the safe mark + 32.
+pub const WINDOW: usize = 32;
+/// Places for waiting posts.
+pub const MOST_POSTS: usize = 16;
+/// The most that a station broadcasts at a visit.
+pub const MOST_BROADCAST: u8 = 16;
+/// Members of a ring.
+pub const MOST_MEMBERS: usize = 8;
+/// Bytes of a content.
+pub const MOST_CONTENT: usize = 64;
+/// The largest ring, message or token number.
+pub const MOST_NUMBER: u32 = 2_000_000_000;

@@ -1,0 +1,11 @@
+//! Tests of the oracle's four calls, against the specification's words.
+
+mod any_bytes;
+mod door;
+mod messages;
+mod reader;
+mod ring;
+mod support;
+mod trials;
+mod visits;
+mod whole;

@@ -1,0 +1,260 @@
+#include "trials.h"
+
+#include <string.h>
+
+#include "station.h"
+#include "words.h"
+
+/* no more new messages: the others have broadcast as many as a round may have */
+enum { FULL_ROUND = 24 };
+
+const char *const fill_names[FILLS] = {"fresh", "half full", "full"};
+
+/* a trial that is being made: the station's record as values, and what comes of it */
+struct making {
+    struct station s;
+    struct trial t;
+};
+
+static void wants(struct making *m, unsigned outcome, size_t written, size_t delivered)
+{
+    m->t.wanted = (totem_answer){.outcome = (uint16_t)outcome, .frames = (uint16_t)written,
+                                 .deliveries = (uint16_t)delivered};
+}
+
+static void wants_refusal(struct making *m, unsigned number)
+{
+    m->t.wanted = (totem_answer){.refusal = (uint16_t)number};
+}
+
+static void hand_message(struct making *m, uint32_t number, uint16_t service)
+{
+    struct held message = {number, 3, service, some_content(CONTENT_ROOM, number)};
+
+    m->t.call = ARRIVE;
+    m->t.size = message_bytes(&m->s, &message, m->t.frame);
+}
+
+/* a token behind the one forwarded last; the station has all that the ring has, and so have the others */
+static struct token next_token(const struct making *m, uint16_t round)
+{
+    struct token t = first_token(m->s.ring, 3);
+
+    t.addressee = m->s.own;
+    t.number = m->s.token_number + 1;
+    t.highest = t.aru = m->s.level;
+    t.round = round;
+    return t;
+}
+
+static void hand_token(struct making *m, struct token t)
+{
+    m->t.call = ARRIVE;
+    m->t.size = token_bytes(&t, m->t.frame);
+}
+
+static void visited(struct making *m)
+{
+    m->s.token = next_token(m, 0);
+    m->s.token.number++;
+    m->s.token.addressee = 9;
+    m->s.token_number = m->s.token.number;
+    m->s.aru = m->s.level;
+    m->s.leave = true;
+}
+
+/* ---- the kinds */
+
+static void founding(struct making *m)
+{
+    m->t.call = FOUND;
+    wants(m, TOTEM_FOUNDED, TOTEM_TOKEN_LEN, 0);
+}
+
+static void post(struct making *m)
+{
+    m->t.call = POST;
+    memcpy(m->t.frame, some_content(CONTENT_ROOM, 1).bytes, CONTENT_ROOM);
+    m->t.size = CONTENT_ROOM;
+    wants(m, TOTEM_POSTED, 0, 0);
+}
+
+static void kept_and_delivered(struct making *m)
+{
+    hand_message(m, m->s.level + 1, TOTEM_AGREED);
+    wants(m, TOTEM_KEPT, 0, MESSAGE_ROOM);
+}
+
+static void kept(struct making *m)
+{
+    hand_message(m, m->s.level + 1, TOTEM_SAFE);
+    wants(m, TOTEM_KEPT, 0, 0);
+}
+
+static void had(struct making *m)
+{
+    hand_message(m, 1, TOTEM_AGREED);
+    wants(m, TOTEM_HAD, 0, 0);
+}
+
+static void ahead(struct making *m)
+{
+    hand_message(m, m->s.safe + HELD_PLACES + 1, TOTEM_AGREED);
+    wants(m, TOTEM_AHEAD, 0, 0);
+}
+
+static void idle_visit(struct making *m)
+{
+    hand_token(m, next_token(m, FULL_ROUND));
+    wants(m, TOTEM_ACCEPTED, TOKEN_LEAST, 0);
+}
+
+static void visit_with_new(struct making *m)
+{
+    hand_token(m, next_token(m, 0));
+    wants(m, TOTEM_ACCEPTED, 8 * MESSAGE_ROOM + TOKEN_LEAST, 8 * MESSAGE_ROOM);
+}
+
+static void visit_with_repeats(struct making *m)
+{
+    struct token t = next_token(m, FULL_ROUND);
+
+    for (t.count = 0; t.count < REQUEST_PLACES; t.count++)
+        t.requests[t.count] = t.count + 1;
+    hand_token(m, t);
+    wants(m, TOTEM_ACCEPTED, REQUEST_PLACES * MESSAGE_ROOM + TOKEN_LEAST, 0);
+}
+
+/* with this visit all held ones are known to be received by all */
+static void visit_letting_go(struct making *m)
+{
+    m->s.aru = m->s.level;
+    idle_visit(m);
+}
+
+static void visit_delivering(struct making *m)
+{
+    for (unsigned i = 0; i < m->s.held_count; i++)
+        m->s.held[i].service = TOTEM_SAFE;
+    m->s.delivered = 0;
+    visit_letting_go(m);
+    m->t.wanted.deliveries = (uint16_t)(m->s.held_count * MESSAGE_ROOM);
+}
+
+static void resend(struct making *m)
+{
+    visited(m);
+    m->t.call = RESEND;
+    wants(m, TOTEM_RESENT, TOKEN_LEAST, 0);
+}
+
+/* by the last post's place, in use or not */
+static void not_whole(struct making *m)
+{
+    kept(m);
+    m->s.posts[POST_PLACES - 1].service = 2;
+    wants_refusal(m, TOTEM_NOT_WHOLE);
+}
+
+static void wrong_length(struct making *m)
+{
+    kept(m);
+    m->t.size--;
+    wants_refusal(m, TOTEM_WRONG_LENGTH);
+}
+
+static void malformed(struct making *m)
+{
+    hand_message(m, m->s.level + 1, 2);
+    wants_refusal(m, TOTEM_MALFORMED);
+}
+
+static void other_ring(struct making *m)
+{
+    kept(m);
+    put(m->t.frame + T_RING, 4, m->s.ring + 1);
+    wants_refusal(m, TOTEM_OTHER_RING);
+}
+
+static void other_addressee(struct making *m)
+{
+    struct token t = next_token(m, 0);
+
+    t.addressee = 9;
+    hand_token(m, t);
+    wants_refusal(m, TOTEM_OTHER_ADDRESSEE);
+}
+
+static void old_token(struct making *m)
+{
+    idle_visit(m);
+    visited(m);
+    wants_refusal(m, TOTEM_OLD_TOKEN);
+}
+
+static const struct kind {
+    const char *name;
+    void (*make)(struct making *m);
+    unsigned least_held, most_held, least_posts, most_posts;
+} kinds[] = {
+    {"founding", founding, 0, 0, 0, 0},
+    {"post", post, 0, 32, 0, 15},
+    {"message, kept and delivered", kept_and_delivered, 0, 31, 0, 16},
+    {"message, kept (safe)", kept, 0, 31, 0, 16},
+    {"message, had", had, 1, 32, 0, 16},
+    {"message, ahead", ahead, 0, 32, 0, 16},
+    {"visit, nothing new", idle_visit, 0, 32, 0, 16},
+    {"visit, 8 new messages", visit_with_new, 0, 24, 8, 16},
+    {"visit, 16 repeats", visit_with_repeats, 16, 32, 0, 16},
+    {"visit, held ones let go", visit_letting_go, 8, 32, 0, 16},
+    {"visit, held ones (safe) delivered and let go", visit_delivering, 8, 32, 0, 16},
+    {"resend", resend, 0, 32, 0, 16},
+    {"refused 2: record not whole", not_whole, 0, 31, 0, 16},
+    {"refused 10: wrong length", wrong_length, 0, 31, 0, 16},
+    {"refused 12: malformed", malformed, 0, 31, 0, 16},
+    {"refused 13: other ring", other_ring, 0, 31, 0, 16},
+    {"refused 15: token for another", other_addressee, 0, 32, 0, 16},
+    {"refused 16: token repeated", old_token, 0, 32, 0, 16},
+};
+
+size_t trial_kinds(void)
+{
+    return sizeof kinds / sizeof *kinds;
+}
+
+const char *trial_name(size_t kind)
+{
+    return kinds[kind].name;
+}
+
+static unsigned within(unsigned value, unsigned least, unsigned most)
+{
+    return value < least ? least : value > most ? most : value;
+}
+
+/* station 7 of 3, 7 and 9: messages 1 to `held` held and delivered, `posts` posts waiting, all of 64 bytes */
+static struct station filled(unsigned held, unsigned posts)
+{
+    static const uint16_t members[] = {3, 7, 9};
+    struct station s = fresh_station(7, 4, 3, members);
+
+    for (uint32_t n = 1; n <= held; n++)
+        hold(&s, n, members[n % 3], TOTEM_AGREED, some_content(CONTENT_ROOM, n));
+    for (unsigned i = 0; i < posts; i++)
+        add_post(&s, TOTEM_AGREED, some_content(CONTENT_ROOM, 100 + i).bytes, CONTENT_ROOM);
+    s.level = s.delivered = held;
+    return s;
+}
+
+struct trial trial_of(size_t kind, enum fill fill)
+{
+    const struct kind *k = &kinds[kind];
+    struct making m;
+
+    memset(&m, 0, sizeof m);
+    m.s = filled(within(HELD_PLACES / 2 * fill, k->least_held, k->most_held),
+                 within(POST_PLACES / 2 * fill, k->least_posts, k->most_posts));
+    k->make(&m);
+    station_bytes(&m.s, m.t.record);
+    return m.t;
+}
