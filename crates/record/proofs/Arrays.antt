@@ -3,6 +3,7 @@ use mathlib.Core.Path.{_≡_}
 use lib.ListN.{length}
 use Rattle.frames.specs.Layout.{longestToken}
 use Rattle.record.specs.Size.{mostMembers, mostHeld, mostPosts, heldContents, postContents}
+use Rattle.record.specs.declared.head.LogHead.{LogHead}
 use Rattle.record.specs.declared.log.Held.{Held}
 use Rattle.record.specs.declared.log.Log.{Log}
 use Rattle.record.specs.declared.posts.Posts.{Posts}
@@ -17,6 +18,12 @@ pub record HeldArrays (h : Held) : Type 0 where
 pub record LogArrays (l : Log) : Type 0 where
   pub members : length (l .members) ≡ mostMembers
   pub held : HeldArrays (l .held)
+
+pub record HeadArrays (l : LogHead) : Type 0 where
+  pub members : length (l .members) ≡ mostMembers
+  pub senders : length (l .senders) ≡ mostHeld
+  pub services : length (l .services) ≡ mostHeld
+  pub lengths : length (l .lengths) ≡ mostHeld
 
 pub record PostsArrays (p : Posts) : Type 0 where
   pub services : length (p .services) ≡ mostPosts

@@ -1,7 +1,7 @@
 -- A loop that tests each of a run of numbers: what is left decides the whole.
 use Prim.Native.Nat.{ℕ, zero, suc, _+_, _-_, _<_, _≤_}
-use mathlib.Core.Path.{_≡_, refl}
-use mathlib.Core.Bool.{Bool, true, false, _&&_, and-false}
+use mathlib.Core.Path.{_≡_, refl, sym, _∙_}
+use mathlib.Core.Bool.{Bool, true, false, _&&_, and-false, and-true, and-assoc}
 use native.Mathlib.Nat.{add-zero, sub-zero}
 use native.Mathlib.Omega.{arith}
 use Rattle.frames.proofs.Facts.{part}
@@ -38,6 +38,29 @@ module _ (test : ℕ → Bool) (first n i : ℕ) (so-far : Counting test first n
   count-ends h =
       let e : n - i ≡ 0 = omega arith in
       rw e at (so-far .rest)
+
+-- ---- a loop with no way out: what was found so far, and what is left
+
+pub record Gathered (test : ℕ → Bool) (first n : ℕ) (good : Bool) (i : ℕ) : Type 0 where
+  pub within : i ≤ n
+  pub rest : good && everyFrom test (first + i) (n - i) ≡ everyFrom test first n
+
+pub gathered-starts : (test : ℕ → Bool) (first n : ℕ) → Gathered test first n true 0
+gathered-starts test first n = record { within = omega arith; rest = rw (add-zero first, sub-zero n) refl }
+
+module _ (test : ℕ → Bool) (first n : ℕ) (good : Bool) (i : ℕ) (so-far : Gathered test first n good i) where
+  pub gathered-goes : i < n → Gathered test first n (good && test (first + i)) (i + 1)
+  gathered-goes h =
+      record {
+        within = omega arith;
+        rest = and-assoc good (test (first + i)) (everyFrom test (first + (i + 1)) (n - (i + 1))) ∙ rw (next test first n i h) at (so-far .rest);
+      }
+
+  pub gathered-ends : n ≤ i → good ≡ everyFrom test first n
+  unfolding everyFrom
+  gathered-ends h =
+      let e : n - i ≡ 0 = omega arith in
+      sym (and-true good) ∙ rw e at (so-far .rest)
 
 -- ---- the same of a run from above a number up to another, by the number that is next
 

@@ -1,8 +1,9 @@
 -- Parts read field by field, each array into zeros of its own length, are the parts that stand in the bytes.
-use Prim.Native.Nat.{ℕ, _-_}
-use mathlib.Core.Path.{_≡_}
+use Prim.Native.Nat.{ℕ, _+_, _-_}
+use mathlib.Core.Path.{_≡_, _∙_}
 use mathlib.Core.List.{List, [], _++_, append-nil}
 use lib.ListN.{length, take, drop}
+use lib.Seq.{drop-drop}
 use Rattle.words.specs.Word.{wordAt}
 use Rattle.words.specs.Run.{words}
 use Rattle.words.proofs.ScanLaws.{to-end}
@@ -10,35 +11,35 @@ use Rattle.frames.specs.Layout.{longestToken}
 use Rattle.record.specs.Size.{mostMembers, mostHeld, mostPosts, heldContents, postContents}
 use Rattle.record.specs.Layout.{ownAt, logAt, turnAt, postsAt, ringAt, memberCountAt, membersAt, levelAt, safeAt, deliveredAt, heldMessagesAt, sendersAt, heldServicesAt, heldLengthsAt, heldContentsAt, aruAt, earlierAt, tokenNumberAt, broadcastAt, stallAt, tokenSizeAt, tokenAt, postCountAt, postServicesAt, postLengthsAt, postContentsAt}
 use Rattle.record.specs.Bytes.{bytesAt, heldOf, logOf, turnOf, postsOf, recordOf}
-use Rattle.record.specs.declared.log.Held.{Held}
-use Rattle.record.specs.declared.log.Log.{Log}
+use Rattle.record.specs.Head.{logOn, postsOn, recordOn, contentsIn, waitingIn}
+use Rattle.record.specs.declared.head.LogHead.{LogHead}
+use Rattle.record.specs.declared.head.PostsHead.{PostsHead}
+use Rattle.record.specs.declared.head.Head.{Head}
 use Rattle.record.specs.declared.turn.Turn.{Turn}
-use Rattle.record.specs.declared.posts.Posts.{Posts}
 
 -- a part to the end, as the code spells it
 abbrev toEnd : List ℕ → ℕ → List ℕ
 toEnd s at = take (length s - at) (drop at s)
 
-pub held-read : (s senders services lengths contents : List ℕ)
-    → senders ≡ words 2 mostHeld (drop sendersAt s) ++ []
-    → services ≡ words 2 mostHeld (drop heldServicesAt s) ++ []
-    → lengths ≡ bytesAt mostHeld s heldLengthsAt ++ []
-    → contents ≡ bytesAt heldContents s heldContentsAt ++ []
-    → record { senders = senders; services = services; lengths = lengths; contents = contents } ≡ heldOf s
-unfolding heldOf
-held-read s senders services lengths contents e₁ e₂ e₃ e₄ = rw (e₁, e₂, e₃, e₄) (simp append-nil)
-
-pub log-read : (s : List ℕ) (ring count : ℕ) (members : List ℕ) (level safe delivered : ℕ) (held : Held)
+pub log-read : (s : List ℕ) (ring count : ℕ) (members : List ℕ) (level safe delivered : ℕ) (senders services lengths : List ℕ)
     → ring ≡ wordAt 4 s ringAt
     → count ≡ wordAt 1 s memberCountAt
     → members ≡ words 2 mostMembers (drop membersAt s) ++ []
     → level ≡ wordAt 4 s levelAt
     → safe ≡ wordAt 4 s safeAt
     → delivered ≡ wordAt 4 s deliveredAt
-    → held ≡ heldOf (toEnd s heldMessagesAt)
-    → record { ring = record { 0 = ring }; count = count; members = members; level = record { 0 = level }; safe = record { 0 = safe }; delivered = record { 0 = delivered }; held = held } ≡ logOf s
-unfolding logOf
-log-read s ring count members level safe delivered held e₁ e₂ e₃ e₄ e₅ e₆ e₇ = rw (e₁, e₂, e₃, e₄, e₅, e₆, e₇, append-nil, to-end)
+    → senders ≡ words 2 mostHeld (drop (heldMessagesAt + sendersAt) s) ++ []
+    → services ≡ words 2 mostHeld (drop (heldMessagesAt + heldServicesAt) s) ++ []
+    → lengths ≡ bytesAt mostHeld s (heldMessagesAt + heldLengthsAt) ++ []
+    → logOn (record { ring = record { 0 = ring }; count = count; members = members; level = record { 0 = level }; safe = record { 0 = safe }; delivered = record { 0 = delivered }; senders = senders; services = services; lengths = lengths }) (contentsIn s 0)
+    ≡ logOf s
+unfolding logOf heldOf
+log-read s ring count members level safe delivered senders services lengths e₁ e₂ e₃ e₄ e₅ e₆ e₇ e₈ e₉ =
+    let senders-there : senders ≡ words 2 mostHeld (drop sendersAt (drop heldMessagesAt s)) = rw (drop-drop sendersAt heldMessagesAt s) (e₇ ∙ append-nil _) in
+    let services-there : services ≡ words 2 mostHeld (drop heldServicesAt (drop heldMessagesAt s)) = rw (drop-drop heldServicesAt heldMessagesAt s) (e₈ ∙ append-nil _) in
+    let lengths-there : lengths ≡ bytesAt mostHeld (drop heldMessagesAt s) heldLengthsAt = rw (drop-drop heldLengthsAt heldMessagesAt s) (e₉ ∙ append-nil _) in
+    let contents-there : contentsIn s 0 ≡ bytesAt heldContents (drop heldMessagesAt s) heldContentsAt = rw (drop-drop heldContentsAt heldMessagesAt s) in
+    rw (e₁, e₂, e₃, e₄, e₅, e₆, senders-there, services-there, lengths-there, contents-there) (simp append-nil)
 
 pub turn-read : (s : List ℕ) (aru earlier number broadcast stall size : ℕ) (token : List ℕ)
     → aru ≡ wordAt 4 s aruAt
@@ -52,20 +53,33 @@ pub turn-read : (s : List ℕ) (aru earlier number broadcast stall size : ℕ) (
 unfolding turnOf
 turn-read s aru earlier number broadcast stall size token e₁ e₂ e₃ e₄ e₅ e₆ e₇ = rw (e₁, e₂, e₃, e₄, e₅, e₆, e₇, append-nil)
 
-pub posts-read : (s : List ℕ) (count : ℕ) (services lengths contents : List ℕ)
+pub posts-read : (s : List ℕ) (count : ℕ) (services lengths : List ℕ)
     → count ≡ wordAt 1 s postCountAt
     → services ≡ words 2 mostPosts (drop postServicesAt s) ++ []
     → lengths ≡ bytesAt mostPosts s postLengthsAt ++ []
-    → contents ≡ bytesAt postContents s postContentsAt ++ []
-    → record { count = count; services = services; lengths = lengths; contents = contents } ≡ postsOf s
+    → postsOn (record { count = count; services = services; lengths = lengths }) (waitingIn s 0) ≡ postsOf s
 unfolding postsOf
-posts-read s count services lengths contents e₁ e₂ e₃ e₄ = rw (e₁, e₂, e₃, e₄) (simp append-nil)
+posts-read s count services lengths e₁ e₂ e₃ = rw (e₁, e₂, e₃) (simp append-nil)
 
-pub record-read : (s : List ℕ) (own : ℕ) (log : Log) (turn : Turn) (posts : Posts)
+pub head-read : (s : List ℕ) (own : ℕ) (log : LogHead) (turn : Turn) (posts : PostsHead)
     → own ≡ wordAt 2 s ownAt
-    → log ≡ logOf (toEnd s logAt)
+    → logOn log (contentsIn (toEnd s logAt) 0) ≡ logOf (toEnd s logAt)
     → turn ≡ turnOf (toEnd s turnAt)
-    → posts ≡ postsOf (toEnd s postsAt)
-    → record { own = own; log = log; turn = turn; posts = posts } ≡ recordOf s
+    → postsOn posts (waitingIn (toEnd s postsAt) 0) ≡ postsOf (toEnd s postsAt)
+    → recordOn (record { own = own; log = log; turn = turn; posts = posts }) (contentsIn s logAt) (waitingIn s postsAt) ≡ recordOf s
 unfolding recordOf
-record-read s own log turn posts e₁ e₂ e₃ e₄ = rw (e₁, e₂, e₃, e₄) (simp to-end)
+head-read s own log turn posts e₁ e₂ e₃ e₄ =
+    let log-there : logOn log (contentsIn s logAt) ≡ logOf (drop logAt s) = rw (to-end s logAt, drop-drop (0 + heldMessagesAt + heldContentsAt) logAt s) at e₂ in
+    let posts-there : postsOn posts (waitingIn s postsAt) ≡ postsOf (drop postsAt s) = rw (to-end s postsAt, drop-drop (0 + postContentsAt) postsAt s) at e₄ in
+    rw (e₁, log-there, rw (to-end s turnAt) at e₃, posts-there)
+
+pub decoded : (s : List ℕ) (h : Head) (contents waiting : List ℕ)
+    → recordOn h (contentsIn s logAt) (waitingIn s postsAt) ≡ recordOf s
+    → contents ≡ contentsIn s logAt ++ []
+    → waiting ≡ waitingIn s postsAt ++ []
+    → recordOn h contents waiting ≡ recordOf s
+decoded s h contents waiting e e₁ e₂ = rw (e₁, e₂) (rw (append-nil (contentsIn s logAt), append-nil (waitingIn s postsAt)) e)
+
+pub count-read : (s : List ℕ) (n : ℕ) → n ≡ wordAt 1 s (postsAt + postCountAt) → n ≡ recordOf s .posts .count
+unfolding recordOf postsOf wordAt
+count-read s n e = rw (drop-drop postCountAt postsAt s) e

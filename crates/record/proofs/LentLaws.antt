@@ -1,18 +1,22 @@
 -- A record lent as bytes.
-use Prim.Native.Nat.{ℕ}
+use Prim.Native.Nat.{ℕ, _+_, _-_}
 use mathlib.Core.Path.{_≡_, refl}
-use mathlib.Core.Bool.{false}
+use mathlib.Core.Bool.{Bool, false}
 use mathlib.Core.List.{List}
 use borrow.Author.Tests.{eq-eqb, ne-eqb}
-use lib.ListN.{length}
+use native.Mathlib.Omega.{arith}
+use lib.ListN.{length, take, drop}
 use Rattle.words.specs.Scan.{every}
 use Rattle.record.specs.Count.{everyFrom}
 use Rattle.record.specs.Members.{foundable}
-use Rattle.record.specs.Layout.{recordSize}
+use Rattle.record.specs.Size.{postContents}
+use Rattle.record.specs.Layout.{recordSize, logAt, postsAt, postContentsAt}
+use Rattle.record.specs.Head.{recordOn, contentsIn, waitingIn}
+use Rattle.record.specs.declared.head.Head.{Head}
 use Rattle.record.specs.Fresh.{freshHeld, membersPlaced, freshLog, freshTurn, freshPosts, fresh}
 use Rattle.record.specs.Whole.{heldInRange, numbersInRange, logInRange, turnInRange, postsInRange, inRange, sendersAreMembers, leaveIsGood, whole}
 use Rattle.record.specs.Bytes.{recordOf}
-use Rattle.record.specs.Lent.{noRecord, lent}
+use Rattle.record.specs.Lent.{noRecord, lent, bytesWhole}
 use Rattle.record.specs.RoundTrip.{OtherLength}
 
 pub lent-of : (s : List ℕ) → length s ≡ recordSize → lent s ≡ recordOf s
@@ -22,6 +26,16 @@ lent-of s e = rw (eq-eqb (length s) recordSize e)
 pub lent-none : (s : List ℕ) → (length s ≡ recordSize → ⊥) → lent s ≡ noRecord
 unfolding lent
 lent-none s other = rw (ne-eqb (length s) recordSize other)
+
+-- the record in bytes of its length, looked at where it stands
+pub whole-there : (s : List ℕ) (h : Head) (b : Bool)
+    → length s ≡ recordSize
+    → recordOn h (contentsIn s logAt) (waitingIn s postsAt) ≡ recordOf s
+    → b ≡ whole (recordOn h (contentsIn s logAt) (take (length s - (postsAt + postContentsAt)) (drop (postsAt + postContentsAt) s)))
+    → b ≡ bytesWhole s
+whole-there s h b long e f =
+    let left : length s - (postsAt + postContentsAt) ≡ postContents = omega (arith, long) in
+    rw (lent-of s long) (rw (left, e) at f)
 
 pub no-record-whole : whole noRecord ≡ false
 unfolding every everyFrom foundable freshHeld membersPlaced freshLog freshTurn freshPosts fresh heldInRange numbersInRange logInRange turnInRange postsInRange inRange sendersAreMembers leaveIsGood whole

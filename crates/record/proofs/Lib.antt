@@ -23,3 +23,4 @@ pub mod PutLaws
 pub mod Fits
 pub mod RoundTrip
 pub mod LentLaws
+pub mod PostLent

@@ -8,7 +8,7 @@ use borrow.Author.Tests.{le-leb}
 use native.Mathlib.Nat.{add-zero, sub-zero, zero-sub, suc-sub-suc}
 use native.Mathlib.Decide.{decLt}
 use native.Mathlib.Omega.{arith}
-use lib.ListN.{length, getD, set, take, drop, replicate, length-append, length-drop, length-replicate, List·getD-append}
+use lib.ListN.{length, getD, set, take, drop, replicate, length-append, length-drop, length-replicate, List·getD-append, take-append-drop}
 use lib.Dec.{leb·zero}
 use lib.Seq.{sets, sets-eq, take-at, drop-at, take-set-le, drop-set-lt, drop-set-add, length-take-le, getD-set-same, getD-set-other, getD-drop, drop-drop, drop-append-le, take-append-le, take-nil, take-all}
 use Rattle.words.specs.Scan.{every, allWithin, allZero}
@@ -39,6 +39,13 @@ part-written at vs l h =
     let front : length (take at l) ≡ at = length-take-le at l (omega arith) in
     rw (sets-eq vs l at h, append-assoc, drop-at (take at l) (vs ++ drop (at + length vs) l) at front)
     (take-at vs (drop (at + length vs) l) (length vs) refl)
+
+-- storing what stands there changes nothing
+pub stands : (n : ℕ) (l : List ℕ) (at : ℕ) → at + n ≤ length l → sets l at (take n (drop at l)) ≡ l
+stands n l at h =
+    let size : length (take n (drop at l)) ≡ n = length-take-le n (drop at l) (rw length-drop (omega arith)) in
+    rw (sets-eq (take n (drop at l)) l at (omega (arith, size)), size, append-assoc, ← drop-drop n at l, take-append-drop n (drop at l))
+    (take-append-drop at l)
 
 -- ---- contents that stand 64 bytes apart
 

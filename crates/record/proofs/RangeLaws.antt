@@ -1,8 +1,9 @@
 -- Fields in range: what the types alone tell, and what the code tests.
-use Prim.Native.Nat.{ℕ, _≤_}
-use mathlib.Core.Path.{_≡_}
+use Prim.Native.Nat.{ℕ, suc, _+_, _≤_}
+use mathlib.Core.Path.{_≡_, sym}
 use mathlib.Core.Bool.{Bool, true, false, _&&_, and-true, and-false}
 use borrow.Author.Tests.{eq-eqb, le-leb}
+use native.Mathlib.Omega.{arith}
 use lib.ListN.{length, getD}
 use lib.Dec.{leb}
 use Rattle.words.specs.Scan.{allWithin}
@@ -16,6 +17,7 @@ use Rattle.record.specs.declared.turn.Turn.{Turn}
 use Rattle.record.specs.declared.posts.Posts.{Posts}
 use Rattle.record.specs.declared.Record.{Record}
 use Rattle.record.proofs.ListLaws.{all-within}
+use Rattle.record.proofs.CountLaws.{all-pass}
 
 pub held-tested : (h : Held)
     → length (h .senders) ≡ mostHeld
@@ -36,6 +38,13 @@ held-tested h e1 e2 e3 e4 p a b ea eb =
       ea,
       eb,
     )
+
+-- 32 numbers above the safe mark: none of them is too large
+pub numbers-below : (l : Log) → l .safe .0 + mostHeld ≤ mostNumber → true ≡ numbersInRange l
+unfolding numbersInRange
+numbers-below l room =
+    sym (all-pass _ (suc (l .safe .0)) mostHeld
+    (λ i h. let fits : suc (l .safe .0) + i ≤ mostNumber = omega arith in rw (le-leb (suc (l .safe .0) + i) mostNumber fits)))
 
 -- the safe mark is tested first
 pub safe-refused : (l : Log) → leb (l .safe .0) mostNumber ≡ false → false ≡ logInRange l

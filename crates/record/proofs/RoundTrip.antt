@@ -1,9 +1,9 @@
 -- Bytes are restored from their record, and a record from its bytes.
 use Prim.Native.Nat.{ℕ, _+_, _*_, _^_, _<_, _≤_}
-use mathlib.Core.Path.{_≡_, sym, _∙_}
+use mathlib.Core.Path.{_≡_, sym, ap, _∙_}
 use mathlib.Core.List.{List, [], _∷_, _++_, append-assoc, append-nil}
 use native.Mathlib.Omega.{arith}
-use lib.ListN.{length, drop, length-drop, take-append-drop, drop-of-length-le}
+use lib.ListN.{length, take, drop, length-append, length-drop, take-append-drop, drop-of-length-le}
 use lib.Seq.{drop-drop, take-at, drop-at}
 use Rattle.words.specs.Word.{Bytes, wordBytes, wordAt}
 use Rattle.words.specs.Run.{words, wordsBytes}
@@ -13,6 +13,7 @@ use Rattle.frames.specs.Layout.{longestToken}
 use Rattle.record.specs.Size.{mostMembers, mostHeld, mostPosts, heldContents, postContents}
 use Rattle.record.specs.Layout.{ownAt, logAt, turnAt, postsAt, recordSize, ringAt, memberCountAt, membersAt, levelAt, safeAt, deliveredAt, heldMessagesAt, logSize, sendersAt, heldServicesAt, heldLengthsAt, heldContentsAt, heldSize, aruAt, earlierAt, tokenNumberAt, broadcastAt, stallAt, tokenSizeAt, tokenAt, turnSize, postCountAt, postServicesAt, postLengthsAt, postContentsAt, postsSize}
 use Rattle.record.specs.Bytes.{bytesAt, heldBytes, heldOf, logBytes, logOf, turnBytes, turnOf, postsBytes, postsOf, recordBytes, recordOf}
+use Rattle.record.specs.Head.{withPosts}
 use Rattle.record.specs.RoundTrip.{BytesRestored, RecordRestored}
 use Rattle.record.specs.declared.log.Held.{Held}
 use Rattle.record.specs.declared.log.Log.{Log}
@@ -77,14 +78,32 @@ posts-there s b h =
     let w₄ = bytes-split postContents s postContentsAt in
     simp append-assoc (rw (w₄, w₃, w₂) w₁)
 
-record-there : (s : List ℕ) → Bytes s → recordSize ≤ length s → recordBytes (recordOf s) ++ drop recordSize s ≡ s
-unfolding recordBytes recordOf
-record-there s b h =
+-- all but the posts
+abbrev beforePosts : Record → List ℕ
+beforePosts r = wordBytes 2 (r .own) ++ logBytes (r .log) ++ turnBytes (r .turn)
+
+before-there : (s : List ℕ) → Bytes s → recordSize ≤ length s → beforePosts (recordOf s) ++ drop postsAt s ≡ s
+unfolding recordOf
+before-there s b h =
     let w₁ = word-split 2 s ownAt b (omega arith) in
     let w₂ = placed (λ t. logBytes (logOf t)) logSize log-there s logAt b (omega arith) in
     let w₃ = placed (λ t. turnBytes (turnOf t)) turnSize turn-there s turnAt b (omega arith) in
+    simp append-assoc (rw (w₃, w₂) w₁)
+
+record-there : (s : List ℕ) → Bytes s → recordSize ≤ length s → recordBytes (recordOf s) ++ drop recordSize s ≡ s
+unfolding recordBytes recordOf
+record-there s b h =
     let w₄ = placed (λ t. postsBytes (postsOf t)) postsSize posts-there s postsAt b (omega arith) in
-    simp append-assoc (rw (w₄, w₃, w₂) w₁)
+    append-assoc (beforePosts (recordOf s)) (postsBytes (recordOf s .posts)) (drop recordSize s) ∙ rw w₄ (before-there s b h)
+
+-- with other posts: their bytes in the place of the old ones
+pub with-posts : (s : List ℕ) (p : Posts) → Bytes s → length s ≡ recordSize → take postsAt s ++ postsBytes p ≡ recordBytes (withPosts (recordOf s) p)
+unfolding recordBytes
+with-posts s p b size =
+    let there = before-there s b (omega arith) in
+    let long : length (beforePosts (recordOf s) ++ drop postsAt s) ≡ recordSize = rw there size in
+    let front : length (beforePosts (recordOf s)) ≡ postsAt = omega (arith, rw (length-append, length-drop) at long, size) in
+    ap (λ xs. take postsAt xs ++ postsBytes p) (sym there) ∙ rw (take-at (beforePosts (recordOf s)) (drop postsAt s) postsAt front)
 
 pub bytes-restored : BytesRestored
 bytes-restored s b size =

@@ -1,5 +1,5 @@
 -- Whole: what the code tests, clause by clause.
-use Prim.Native.Nat.{_-_}
+use Prim.Native.Nat.{ℕ, _-_}
 use mathlib.Core.Path.{_≡_, sym, _∙_}
 use mathlib.Core.Bool.{Bool, true, false, not, _&&_, and-assoc}
 use native.Mathlib.Nat.{sub-zero}
@@ -8,15 +8,17 @@ use lib.ListN.{take}
 use Rattle.record.specs.Members.{foundable}
 use Rattle.record.specs.Ring.{ids}
 use Rattle.record.specs.Whole.{inRange, sendersAreMembers, leaveIsGood, marksInOrder, arusReached, heldToLevel, nextNotHeld, unusedZero, whole}
+use Rattle.record.specs.declared.log.Log.{Log}
+use Rattle.record.specs.declared.turn.Turn.{Turn}
 use Rattle.record.specs.declared.Record.{Record}
 use Rattle.record.proofs.RangeFacts.{RecordRange, record-range}
 
-pub members-tested : (r : Record) (a b c : Bool)
-    → a ≡ sendersAreMembers (take (r .log .count - 0) (r .log .members)) (r .log .held .senders)
-    → b ≡ leaveIsGood (r .log .ring .0) (take (r .log .count - 0) (r .log .members)) (r .turn)
-    → c ≡ foundable (take (r .log .count - 0) (r .log .members)) (r .own) (r .log .ring .0)
-    → (a && b && c) ≡ (sendersAreMembers (ids (r .log)) (r .log .held .senders) && leaveIsGood (r .log .ring .0) (ids (r .log)) (r .turn) && foundable (ids (r .log)) (r .own) (r .log .ring .0))
-members-tested r a b c ea eb ec = rw (ea, eb, ec, sub-zero (r .log .count))
+pub members-tested : (l : Log) (own : ℕ) (t : Turn) (a b c : Bool)
+    → a ≡ sendersAreMembers (take (l .count - 0) (l .members)) (l .held .senders)
+    → b ≡ leaveIsGood (l .ring .0) (take (l .count - 0) (l .members)) t
+    → c ≡ foundable (take (l .count - 0) (l .members)) own (l .ring .0)
+    → (a && b && c) ≡ (sendersAreMembers (ids l) (l .held .senders) && leaveIsGood (l .ring .0) (ids l) t && foundable (ids l) own (l .ring .0))
+members-tested l own t a b c ea eb ec = rw (ea, eb, ec, sub-zero (l .count))
 
 module _ (r : Record) (t : Bool) (e : t ≡ inRange r) where
   pub range-refused : not t ≡ true → false ≡ whole r

@@ -2,6 +2,7 @@ pub mod Size
 pub mod Layout
 pub mod Count
 pub mod Contents
+pub mod Head
 pub mod Held
 pub mod Posts
 pub mod Turn

@@ -1,27 +1,65 @@
-// The record and its bytes: one layout and one length.
+// The record and its bytes: one layout and one length. A head is read and stored with the contents left where
+// they stand.
 ghost use mathlib.Core.Path.{_≡_};
 ghost use mathlib.Core.List.{_++_};
-ghost use Prim.Native.Nat.{_≤_};
+ghost use Prim.Native.Nat.{_<_, _≤_};
 ghost use lib.ListN.{length, drop};
-ghost use Rattle.record.specs.Layout.{recordSize};
+ghost use Rattle.frames.specs.Layout.{mostContent};
+ghost use Rattle.record.specs.Size.{mostPosts};
+ghost use Rattle.record.specs.Posts.{queued};
+ghost use Rattle.record.specs.Layout.{recordSize, logAt, postsAt};
 ghost use Rattle.record.specs.Bytes.{recordOf, recordBytes};
+ghost use Rattle.record.specs.Head.{recordOn, contentsIn, waitingIn, withPosts};
 use crate::Record;
+use crate::head;
+use crate::head::Head;
 use crate::layout;
 use crate::log_bytes;
+use crate::posts;
 use crate::posts_bytes;
+use crate::size;
+use crate::turn::Turn;
 use crate::turn_bytes;
 
-// The record in the first RECORD_SIZE bytes. Ruled out: two marks swapped; a field one byte off.
+// The head of the record in the first RECORD_SIZE bytes. Ruled out: two marks swapped; a field one byte off.
+pub fn get_head(s: &[u8]) -> Head
+    requires { ⌜ recordSize ≤ length (now s) ⌝ }
+    ensures { λ r. ⌜
+        recordOn r (contentsIn (now (s .entry)) logAt) (waitingIn (now (s .entry)) postsAt)
+        ≡ recordOf (now (s .entry)) ⌝ }
+{
+    Head {
+        own: words::get_u16(s, layout::OWN_AT),
+        log: log_bytes::get_log_head(&s[layout::LOG_AT..]),
+        turn: turn_bytes::get_turn(&s[layout::TURN_AT..]),
+        posts: posts_bytes::get_posts_head(&s[layout::POSTS_AT..]),
+    }
+}
+
+// To the first RECORD_SIZE bytes. Ruled out: a content or a byte past them changed; a field left out.
+pub fn put_head(out: &mut [u8], h: Head)
+    requires { ⌜ recordSize ≤ length (now out) ⌝ }
+    ensures { λ _. ⌜
+        now (out .exit)
+        ≡ recordBytes (recordOn h (contentsIn (now (out .entry)) logAt) (waitingIn (now (out .entry)) postsAt))
+        ++ drop recordSize (now (out .entry)) ⌝ }
+{
+    words::put_u16(out, layout::OWN_AT, h.own);
+    log_bytes::put_log_head(out, layout::LOG_AT, h.log);
+    turn_bytes::put_turn(out, layout::TURN_AT, h.turn);
+    posts_bytes::put_posts_head(out, layout::POSTS_AT, h.posts);
+}
+
+// The record in the first RECORD_SIZE bytes.
 pub fn decode(s: &[u8]) -> Record
     requires { ⌜ recordSize ≤ length (now s) ⌝ }
     ensures { λ r. ⌜ r ≡ recordOf (now (s .entry)) ⌝ }
 {
-    Record {
-        own: words::get_u16(s, layout::OWN_AT),
-        log: log_bytes::get_log(&s[layout::LOG_AT..]),
-        turn: turn_bytes::get_turn(&s[layout::TURN_AT..]),
-        posts: posts_bytes::get_posts(&s[layout::POSTS_AT..]),
-    }
+    let mut contents = [0u8; size::HELD_CONTENTS];
+    words::get_bytes(s, layout::CONTENTS_AT, size::HELD_CONTENTS, &mut contents);
+    let mut waiting = [0u8; size::POST_CONTENTS];
+    words::get_bytes(s, layout::WAITING_AT, size::POST_CONTENTS, &mut waiting);
+    head::record_on(get_head(s), contents, waiting)
 }
 
 // To the first RECORD_SIZE bytes. Ruled out: a byte past them changed; a field left out.
@@ -29,8 +67,41 @@ pub fn encode(r: Record, out: &mut [u8])
     requires { ⌜ recordSize ≤ length (now out) ⌝ }
     ensures { λ _. ⌜ now (out .exit) ≡ recordBytes r ++ drop recordSize (now (out .entry)) ⌝ }
 {
-    words::put_u16(out, layout::OWN_AT, r.own);
-    log_bytes::put_log(out, layout::LOG_AT, r.log);
-    turn_bytes::put_turn(out, layout::TURN_AT, r.turn);
-    posts_bytes::put_posts(out, layout::POSTS_AT, r.posts);
+    let contents = r.log.held.contents;
+    let waiting = r.posts.contents;
+    words::put_bytes(out, layout::CONTENTS_AT, &contents);
+    words::put_bytes(out, layout::WAITING_AT, &waiting);
+    put_head(out, head::head_of(r));
+}
+
+// What a station keeps from one visit to the next, in the record's bytes.
+pub fn turn_in(s: &[u8]) -> Turn
+    requires { ⌜ recordSize ≤ length (now s) ⌝ }
+    ensures { λ r. ⌜ r ≡ recordOf (now (s .entry)) .turn ⌝ }
+{
+    turn_bytes::get_turn(&s[layout::TURN_AT..])
+}
+
+// How many posts wait, in the record's bytes.
+pub fn post_count(s: &[u8]) -> u8
+    requires { ⌜ recordSize ≤ length (now s) ⌝ }
+    ensures { λ r. ⌜ r ≡ recordOf (now (s .entry)) .posts .count ⌝ }
+{
+    words::get_u8(s, layout::POSTS_AT + layout::POST_COUNT_AT)
+}
+
+// One post more, in the record's bytes: only those of the posts change. Ruled out: a mark changed; the
+// content of another post.
+pub fn put_post(s: &mut [u8], service: u16, content: &[u8])
+    requires { ⌜
+        (length (now s) ≡ recordSize)
+        × (recordOf (now s) .posts .count < mostPosts)
+        × (length (now content) ≤ mostContent) ⌝ }
+    ensures { λ _. ⌜
+        now (s .exit)
+        ≡ recordBytes (withPosts (recordOf (now (s .entry))) (queued (recordOf (now (s .entry)) .posts) service (now (content .entry)))) ⌝ }
+{
+    let before = posts_bytes::get_posts_head(&s[layout::POSTS_AT..]);
+    let after = posts::queue_on(before, &mut s[layout::WAITING_AT..], service, content);
+    posts_bytes::put_posts_head(s, layout::POSTS_AT, after);
 }

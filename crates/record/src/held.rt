@@ -1,16 +1,27 @@
 // What a log holds: is a number held, a message is held, and everything up to a new safe mark is let go.
 // A message's place follows from its number alone.
 ghost use mathlib.Core.Path.{_≡_};
+ghost use mathlib.Core.Bool.{not, _&&_};
 ghost use Prim.Native.Nat.{_+_, _*_, _≤_};
 ghost use lib.ListN.{length};
+ghost use lib.Dec.{ltb, leb, eqb};
 ghost use lib.Seq.{sets};
 ghost use Rattle.frames.specs.Number.{mostNumber};
 ghost use Rattle.frames.specs.Layout.{mostContent};
+ghost use Rattle.record.specs.Size.{mostHeld};
 ghost use Rattle.record.specs.Held.{placeOf, holds, heldOf, heldWith, logWith, stored, clearedFrom, letGo};
 use crate::log::Held;
 use crate::log::Log;
 use crate::size;
 use frames::MessageNumber;
+
+// Is a number held whose place has this sender?
+pub fn in_use(safe: MessageNumber, sender: u16, n: MessageNumber) -> bool
+    requires { ⌜ safe .0 ≤ mostNumber ⌝ }
+    ensures { λ r. ⌜ r ≡ (ltb (safe .0) (n .0) && leb (n .0) (safe .0 + mostHeld) && not (eqb sender 0)) ⌝ }
+{
+    (safe.0 < n.0) & (n.0 <= safe.0 + size::MOST_HELD as u32) & (sender != 0)
+}
 
 // Is this number held? Ruled out: yes to a number at the safe mark; no to safe mark + 32 where it is held.
 pub fn is_held(l: Log, n: MessageNumber) -> bool
@@ -19,7 +30,7 @@ pub fn is_held(l: Log, n: MessageNumber) -> bool
 {
     let senders = l.held.senders;
     let place = n.0 as usize % size::MOST_HELD;
-    (l.safe.0 < n.0) & (n.0 <= l.safe.0 + size::MOST_HELD as u32) & (senders[place] != 0)
+    in_use(l.safe, senders[place], n)
 }
 
 // The log with other marks and other messages. Ruled out: two marks swapped; a member left out.

@@ -8,11 +8,11 @@ pub const HELD_SERVICES_AT: usize = 64;
 
 pub const HELD_LENGTHS_AT: usize = 128;
 
-pub const HELD_CONTENTS_AT: usize = 160;
+const HELD_CONTENTS_AT: usize = 160;
 
 const HELD_SIZE: usize = HELD_CONTENTS_AT + size::HELD_CONTENTS;
 
-// The log.
+// The log, its held messages last.
 pub const RING_AT: usize = 0;
 
 pub const MEMBER_COUNT_AT: usize = 4;
@@ -25,9 +25,9 @@ pub const SAFE_AT: usize = 25;
 
 pub const DELIVERED_AT: usize = 29;
 
-pub const HELD_MESSAGES_AT: usize = 33;
+pub const HELD_AT: usize = 33;
 
-const LOG_SIZE: usize = HELD_MESSAGES_AT + HELD_SIZE;
+const LOG_SIZE: usize = HELD_AT + HELD_SIZE;
 
 // The turn.
 pub const ARU_AT: usize = 0;
@@ -53,7 +53,7 @@ pub const POST_SERVICES_AT: usize = 1;
 
 pub const POST_LENGTHS_AT: usize = 33;
 
-pub const POST_CONTENTS_AT: usize = 49;
+const POST_CONTENTS_AT: usize = 49;
 
 const POSTS_SIZE: usize = POST_CONTENTS_AT + size::POST_CONTENTS;
 
@@ -67,3 +67,8 @@ pub const TURN_AT: usize = LOG_AT + LOG_SIZE;
 pub const POSTS_AT: usize = TURN_AT + TURN_SIZE;
 
 pub const RECORD_SIZE: usize = POSTS_AT + POSTS_SIZE;
+
+// The contents, counted from the record's first byte: of the held messages, and of the waiting posts.
+pub const CONTENTS_AT: usize = LOG_AT + HELD_AT + HELD_CONTENTS_AT;
+
+pub const WAITING_AT: usize = POSTS_AT + POST_CONTENTS_AT;

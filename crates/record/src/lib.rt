@@ -1,8 +1,8 @@
 // The station record: what it holds, when it is whole, and its bytes. Nothing here knows a call.
 mod bytes;
 mod fresh;
+mod head;
 mod held;
-mod held_bytes;
 mod layout;
 mod lent;
 mod log;
@@ -20,6 +20,9 @@ mod whole;
 
 pub use bytes::decode;
 pub use bytes::encode;
+pub use bytes::post_count;
+pub use bytes::put_post;
+pub use bytes::turn_in;
 pub use fresh::fresh_record;
 pub use held::is_held;
 pub use held::let_go;
@@ -27,6 +30,7 @@ pub use held::log_with;
 pub use held::place_message;
 pub use held::store;
 pub use layout::RECORD_SIZE;
+pub use lent::is_whole_in;
 pub use lent::no_record;
 pub use lent::record_in;
 pub use log::Held;

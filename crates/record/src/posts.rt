@@ -4,8 +4,10 @@ ghost use mathlib.Core.Path.{_≡_};
 ghost use Prim.Native.Nat.{_≤_, _<_};
 ghost use lib.ListN.{length};
 ghost use Rattle.frames.specs.Layout.{mostContent};
-ghost use Rattle.record.specs.Size.{mostPosts};
+ghost use Rattle.record.specs.Size.{mostPosts, postContents};
+ghost use Rattle.record.specs.Head.{postsOn};
 ghost use Rattle.record.specs.Posts.{queued, taken};
+use crate::head::PostsHead;
 use crate::size;
 
 pub struct Posts {
@@ -15,23 +17,47 @@ pub struct Posts {
     pub contents: [u8; size::POST_CONTENTS],
 }
 
-// One post more, behind the others. Ruled out: an older one written over; the count left as it was.
+// One post more, behind the others: its content goes where the contents are lent. Ruled out: an older one written over; the count left as it was.
+pub fn queue_on(p: PostsHead, waiting: &mut [u8], service: u16, content: &[u8]) -> PostsHead
+    requires { ⌜
+        (p .count < mostPosts) × (length (now content) ≤ mostContent) × (length (now waiting) ≡ postContents) ⌝ }
+    ensures { λ r. ⌜
+        postsOn r (now (waiting .exit)) ≡ queued (postsOn p (now (waiting .entry))) service (now (content .entry)) ⌝ }
+{
+    let mut services = p.services;
+    let mut lengths = p.lengths;
+    let place = p.count as usize;
+    services[place] = service;
+    lengths[place] = content.len() as u8;
+    words::put_bytes(waiting, frames::MOST_CONTENT * place, content);
+    PostsHead {
+        count: p.count + 1,
+        services,
+        lengths,
+    }
+}
+
+// The same of posts by value.
 pub fn queue(posts: Posts, service: u16, content: &[u8]) -> Posts
     requires { ⌜ (posts .count < mostPosts) × (length (now content) ≤ mostContent) ⌝ }
     ensures { λ r. ⌜ r ≡ queued posts service (now (content .entry)) ⌝ }
 {
-    let mut services = posts.services;
-    let mut lengths = posts.lengths;
-    let mut contents = posts.contents;
-    let place = posts.count as usize;
-    services[place] = service;
-    lengths[place] = content.len() as u8;
-    words::put_bytes(&mut contents, frames::MOST_CONTENT * place, content);
-    Posts {
-        count: posts.count + 1,
+    let services = posts.services;
+    let lengths = posts.lengths;
+    let mut waiting = posts.contents;
+    let before = PostsHead {
+        count: posts.count,
         services,
         lengths,
-        contents,
+    };
+    let after = queue_on(before, &mut waiting, service, content);
+    let services = after.services;
+    let lengths = after.lengths;
+    Posts {
+        count: after.count,
+        services,
+        lengths,
+        contents: waiting,
     }
 }
 

@@ -1,30 +1,37 @@
 // The first clause of whole: fields in range. The lengths of arrays are the types' own.
 ghost use mathlib.Core.Path.{_≡_};
 ghost use Prim.Native.Nat.{_≤_};
+ghost use lib.ListN.{length};
 ghost use Rattle.frames.specs.Number.{mostNumber};
+ghost use Rattle.record.specs.Size.{heldContents, postContents};
+ghost use Rattle.record.specs.Head.{heldOn, logOn, postsOn, recordOn};
 ghost use Rattle.record.specs.Whole.{heldInRange, numbersInRange, logInRange, turnInRange, postsInRange, inRange};
-use crate::Record;
-use crate::log::Held;
-use crate::log::Log;
-use crate::posts::Posts;
+use crate::head::Head;
+use crate::head::LogHead;
+use crate::head::PostsHead;
 use crate::size;
 use crate::turn::Turn;
 
-fn held_in_range(h: Held) -> bool
-    ensures { λ r. ⌜ r ≡ heldInRange h ⌝ }
+fn held_in_range(l: LogHead, contents: &[u8]) -> bool
+    requires { ⌜ length (now contents) ≡ heldContents ⌝ }
+    ensures { λ r. ⌜ r ≡ heldInRange (heldOn l (now (contents .entry))) ⌝ }
 {
-    let services = h.services;
-    let lengths = h.lengths;
+    let services = l.services;
+    let lengths = l.lengths;
     words::all_within_u16(&services, 0, frames::MOST_SERVICE)
         & words::all_within_u8(&lengths, 0, frames::MOST_CONTENT as u8)
 }
 
-fn numbers_in_range(l: Log) -> bool
+// A safe mark with 32 numbers above it needs no look at the places.
+fn numbers_in_range(l: LogHead, contents: &[u8]) -> bool
     requires { ⌜ l .safe .0 ≤ mostNumber ⌝ }
-    ensures { λ r. ⌜ r ≡ numbersInRange l ⌝ }
+    ensures { λ r. ⌜ r ≡ numbersInRange (logOn l (now (contents .entry))) ⌝ }
 {
-    let senders = l.held.senders;
+    let senders = l.senders;
     let safe = l.safe.0;
+    if safe <= frames::MOST_NUMBER - size::MOST_HELD as u32 {
+        return true;
+    }
     let mut i = 0;
     while i < size::MOST_HELD {
         let n = safe + 1 + i as u32;
@@ -37,8 +44,9 @@ fn numbers_in_range(l: Log) -> bool
     true
 }
 
-fn log_in_range(l: Log) -> bool
-    ensures { λ r. ⌜ r ≡ logInRange l ⌝ }
+fn log_in_range(l: LogHead, contents: &[u8]) -> bool
+    requires { ⌜ length (now contents) ≡ heldContents ⌝ }
+    ensures { λ r. ⌜ r ≡ logInRange (logOn l (now (contents .entry))) ⌝ }
 {
     let counted = l.count as usize <= size::MOST_MEMBERS;
     let level = l.level.0 <= frames::MOST_NUMBER;
@@ -47,7 +55,7 @@ fn log_in_range(l: Log) -> bool
     if !safe {
         return false;
     }
-    counted & level & delivered & held_in_range(l.held) & numbers_in_range(l)
+    counted & level & delivered & held_in_range(l, contents) & numbers_in_range(l, contents)
 }
 
 fn turn_in_range(t: Turn) -> bool
@@ -60,8 +68,9 @@ fn turn_in_range(t: Turn) -> bool
         & (t.size as usize <= frames::LONGEST_TOKEN)
 }
 
-fn posts_in_range(p: Posts) -> bool
-    ensures { λ r. ⌜ r ≡ postsInRange p ⌝ }
+fn posts_in_range(p: PostsHead, waiting: &[u8]) -> bool
+    requires { ⌜ length (now waiting) ≡ postContents ⌝ }
+    ensures { λ r. ⌜ r ≡ postsInRange (postsOn p (now (waiting .entry))) ⌝ }
 {
     let services = p.services;
     let lengths = p.lengths;
@@ -70,8 +79,9 @@ fn posts_in_range(p: Posts) -> bool
         & words::all_within_u8(&lengths, 0, frames::MOST_CONTENT as u8)
 }
 
-pub fn in_range(r: Record) -> bool
-    ensures { λ b. ⌜ b ≡ inRange r ⌝ }
+pub fn in_range(h: Head, contents: &[u8], waiting: &[u8]) -> bool
+    requires { ⌜ (length (now contents) ≡ heldContents) × (length (now waiting) ≡ postContents) ⌝ }
+    ensures { λ b. ⌜ b ≡ inRange (recordOn h (now (contents .entry)) (now (waiting .entry))) ⌝ }
 {
-    log_in_range(r.log) & turn_in_range(r.turn) & posts_in_range(r.posts)
+    log_in_range(h.log, contents) & turn_in_range(h.turn) & posts_in_range(h.posts, waiting)
 }

@@ -4,11 +4,12 @@ ghost use Prim.Native.Nat.{_*_};
 ghost use lib.ListN.{length, drop};
 ghost use Rattle.words.specs.Scan.{allZero};
 ghost use Rattle.frames.specs.Layout.{mostContent};
+ghost use Rattle.record.specs.Size.{heldContents, postContents};
+ghost use Rattle.record.specs.Head.{heldOn, logOn, postsOn, recordOn};
 ghost use Rattle.record.specs.Whole.{contentsPadded, freePlacesZero, logUnusedZero, postsUnusedZero, unusedZero};
-use crate::Record;
-use crate::log::Held;
-use crate::log::Log;
-use crate::posts::Posts;
+use crate::head::Head;
+use crate::head::LogHead;
+use crate::head::PostsHead;
 use crate::size;
 
 // Whatever stands from place n on is zero.
@@ -22,9 +23,13 @@ fn zero_from_u16(s: &[u16], n: u8) -> bool
     words::all_zero_u16(&s[first..])
 }
 
+// Of bytes. Most contents are empty: then the whole slice is looked at, whose length the compiler knows.
 fn zero_from_u8(s: &[u8], n: u8) -> bool
     ensures { λ r. ⌜ r ≡ allZero (drop n (now (s .entry))) ⌝ }
 {
+    if n == 0 {
+        return words::all_zero_u8(s);
+    }
     let first = n as usize;
     if s.len() < first {
         return true;
@@ -50,48 +55,50 @@ fn contents_padded(lengths: &[u8], contents: &[u8]) -> bool
     true
 }
 
-fn free_places_zero(h: Held) -> bool
-    ensures { λ r. ⌜ r ≡ freePlacesZero h ⌝ }
+// With no way out of the loop, so that the compiler can test many at once.
+fn free_places_zero(l: LogHead, contents: &[u8]) -> bool
+    ensures { λ r. ⌜ r ≡ freePlacesZero (heldOn l (now (contents .entry))) ⌝ }
 {
-    let senders = h.senders;
-    let services = h.services;
-    let lengths = h.lengths;
+    let senders = l.senders;
+    let services = l.services;
+    let lengths = l.lengths;
+    let mut good = true;
     let mut i = 0;
     while i < size::MOST_HELD {
-        let good = (senders[i] != 0) | ((services[i] == 0) & (lengths[i] == 0));
-        if !good {
-            return false;
-        }
+        good = good & ((senders[i] != 0) | ((services[i] == 0) & (lengths[i] == 0)));
         i += 1;
     }
-    true
+    good
 }
 
-fn log_unused_zero(l: Log) -> bool
-    ensures { λ r. ⌜ r ≡ logUnusedZero l ⌝ }
+fn log_unused_zero(l: LogHead, contents: &[u8]) -> bool
+    requires { ⌜ length (now contents) ≡ heldContents ⌝ }
+    ensures { λ r. ⌜ r ≡ logUnusedZero (logOn l (now (contents .entry))) ⌝ }
 {
     let members = l.members;
-    let lengths = l.held.lengths;
-    let contents = l.held.contents;
+    let lengths = l.lengths;
     zero_from_u16(&members, l.count)
-        & free_places_zero(l.held)
-        & contents_padded(&lengths, &contents)
+        & free_places_zero(l, contents)
+        & contents_padded(&lengths, contents)
 }
 
-fn posts_unused_zero(p: Posts) -> bool
-    ensures { λ r. ⌜ r ≡ postsUnusedZero p ⌝ }
+fn posts_unused_zero(p: PostsHead, waiting: &[u8]) -> bool
+    requires { ⌜ length (now waiting) ≡ postContents ⌝ }
+    ensures { λ r. ⌜ r ≡ postsUnusedZero (postsOn p (now (waiting .entry))) ⌝ }
 {
     let services = p.services;
     let lengths = p.lengths;
-    let contents = p.contents;
     zero_from_u16(&services, p.count)
         & zero_from_u8(&lengths, p.count)
-        & contents_padded(&lengths, &contents)
+        & contents_padded(&lengths, waiting)
 }
 
-pub fn unused_zero(r: Record) -> bool
-    ensures { λ b. ⌜ b ≡ unusedZero r ⌝ }
+pub fn unused_zero(h: Head, contents: &[u8], waiting: &[u8]) -> bool
+    requires { ⌜ (length (now contents) ≡ heldContents) × (length (now waiting) ≡ postContents) ⌝ }
+    ensures { λ b. ⌜ b ≡ unusedZero (recordOn h (now (contents .entry)) (now (waiting .entry))) ⌝ }
 {
-    let token = r.turn.token;
-    log_unused_zero(r.log) & posts_unused_zero(r.posts) & zero_from_u8(&token, r.turn.size)
+    let token = h.turn.token;
+    log_unused_zero(h.log, contents)
+        & posts_unused_zero(h.posts, waiting)
+        & zero_from_u8(&token, h.turn.size)
 }

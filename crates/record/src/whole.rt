@@ -1,31 +1,47 @@
 // Is a record whole?
 ghost use mathlib.Core.Path.{_≡_};
-ghost use mathlib.Core.Bool.{_&&_};
+ghost use mathlib.Core.Bool.{_&&_, _||_};
 ghost use Prim.Native.Nat.{_≤_};
+ghost use lib.Dec.{eqb};
+ghost use lib.ListN.{length};
 ghost use Rattle.frames.specs.Number.{mostNumber};
 ghost use Rattle.frames.specs.Layout.{longestToken};
-ghost use Rattle.record.specs.Size.{mostMembers};
-ghost use Rattle.record.specs.Members.{foundable};
+ghost use Rattle.record.specs.Size.{mostMembers, heldContents, postContents};
+ghost use Rattle.record.specs.Head.{logOn, recordOn};
+ghost use Rattle.record.specs.Held.{holds};
+ghost use Rattle.record.specs.Members.{isMember, foundable};
 ghost use Rattle.record.specs.Ring.{ids};
 ghost use Rattle.record.specs.Whole.{sendersAreMembers, leaveIsGood, marksInOrder, arusReached, heldToLevel, nextNotHeld, whole};
 use crate::Record;
+use crate::head;
+use crate::head::Head;
+use crate::head::LogHead;
 use crate::held;
-use crate::log::Log;
 use crate::members;
 use crate::range;
 use crate::ring;
+use crate::size;
 use crate::turn::Turn;
 use crate::unused;
 use frames::MessageNumber;
 use frames::RingNumber;
+
+// A place is free, or its sender is a member. Most places are free: no member is looked at for them.
+fn is_sender(ids: &[u16], x: u16) -> bool
+    ensures { λ r. ⌜ r ≡ (eqb x 0 || isMember (now (ids .entry)) x) ⌝ }
+{
+    if x == 0 {
+        return true;
+    }
+    members::is_member(ids, x)
+}
 
 fn senders_are_members(ids: &[u16], senders: &[u16]) -> bool
     ensures { λ r. ⌜ r ≡ sendersAreMembers (now (ids .entry)) (now (senders .entry)) ⌝ }
 {
     let mut i = 0;
     while i < senders.len() {
-        let x = senders[i];
-        let good = (x == 0) | members::is_member(ids, x);
+        let good = is_sender(ids, senders[i]);
         if !good {
             return false;
         }
@@ -45,8 +61,8 @@ fn leave_is_good(ring: RingNumber, ids: &[u16], t: Turn) -> bool
     ring::token_passes(ring, ids, &token[0..t.size as usize])
 }
 
-fn marks_in_order(l: Log) -> bool
-    ensures { λ r. ⌜ r ≡ marksInOrder l ⌝ }
+fn marks_in_order(l: LogHead, contents: &[u8]) -> bool
+    ensures { λ r. ⌜ r ≡ marksInOrder (logOn l (now (contents .entry))) ⌝ }
 {
     (l.safe.0 <= l.delivered.0) & (l.delivered.0 <= l.level.0)
 }
@@ -57,14 +73,24 @@ fn arus_reached(t: Turn, level: MessageNumber) -> bool
     (t.aru.0 <= level.0) & (t.earlier.0 <= level.0)
 }
 
-fn held_to_level(l: Log) -> bool
+// Is this number held?
+fn is_held(l: LogHead, contents: &[u8], n: MessageNumber) -> bool
+    requires { ⌜ l .safe .0 ≤ mostNumber ⌝ }
+    ensures { λ r. ⌜ r ≡ holds (logOn l (now (contents .entry))) (n .0) ⌝ }
+{
+    let senders = l.senders;
+    let place = n.0 as usize % size::MOST_HELD;
+    held::in_use(l.safe, senders[place], n)
+}
+
+fn held_to_level(l: LogHead, contents: &[u8]) -> bool
     requires { ⌜ (l .safe .0 ≤ mostNumber) × (l .level .0 ≤ mostNumber) ⌝ }
-    ensures { λ r. ⌜ r ≡ heldToLevel l ⌝ }
+    ensures { λ r. ⌜ r ≡ heldToLevel (logOn l (now (contents .entry))) ⌝ }
 {
     let level = l.level.0;
     let mut n = l.safe.0 + 1;
     while n <= level {
-        let good = held::is_held(l, MessageNumber(n));
+        let good = is_held(l, contents, MessageNumber(n));
         if !good {
             return false;
         }
@@ -73,53 +99,65 @@ fn held_to_level(l: Log) -> bool
     true
 }
 
-fn next_not_held(l: Log) -> bool
+fn next_not_held(l: LogHead, contents: &[u8]) -> bool
     requires { ⌜ (l .safe .0 ≤ mostNumber) × (l .level .0 ≤ mostNumber) ⌝ }
-    ensures { λ r. ⌜ r ≡ nextNotHeld l ⌝ }
+    ensures { λ r. ⌜ r ≡ nextNotHeld (logOn l (now (contents .entry))) ⌝ }
 {
-    !held::is_held(l, MessageNumber(l.level.0 + 1))
+    !is_held(l, contents, MessageNumber(l.level.0 + 1))
 }
 
 // The clauses on members: held senders, the token that may be resent, the founding questions.
-fn members_agree(r: Record) -> bool
-    requires { ⌜ (r .log .count ≤ mostMembers) × (r .turn .size ≤ longestToken) ⌝ }
+fn members_agree(h: Head, contents: &[u8]) -> bool
+    requires { ⌜ (h .log .count ≤ mostMembers) × (h .turn .size ≤ longestToken) ⌝ }
     ensures { λ b. ⌜ b ≡
-        (sendersAreMembers (ids (r .log)) (r .log .held .senders)
-        && leaveIsGood (r .log .ring .0) (ids (r .log)) (r .turn)
-        && foundable (ids (r .log)) (r .own) (r .log .ring .0)) ⌝ }
+        (sendersAreMembers (ids (logOn (h .log) (now (contents .entry)))) (h .log .senders)
+        && leaveIsGood (h .log .ring .0) (ids (logOn (h .log) (now (contents .entry)))) (h .turn)
+        && foundable (ids (logOn (h .log) (now (contents .entry)))) (h .own) (h .log .ring .0)) ⌝ }
 {
-    let members = r.log.members;
-    let senders = r.log.held.senders;
-    let n = r.log.count as usize;
+    let members = h.log.members;
+    let senders = h.log.senders;
+    let n = h.log.count as usize;
     let ids = &members[0..n];
-    let ring = r.log.ring;
+    let ring = h.log.ring;
     senders_are_members(ids, &senders)
-        & leave_is_good(ring, ids, r.turn)
-        & members::foundable_by(ids, r.own, ring)
+        & leave_is_good(ring, ids, h.turn)
+        & members::foundable_by(ids, h.own, ring)
 }
 
 // The clauses on marks: their order, both aru, what is held and what isn't.
-fn marks_agree(r: Record) -> bool
-    requires { ⌜ (r .log .safe .0 ≤ mostNumber) × (r .log .level .0 ≤ mostNumber) ⌝ }
+fn marks_agree(h: Head, contents: &[u8]) -> bool
+    requires { ⌜ (h .log .safe .0 ≤ mostNumber) × (h .log .level .0 ≤ mostNumber) ⌝ }
     ensures { λ b. ⌜ b ≡
-        (marksInOrder (r .log)
-        && arusReached (r .turn) (r .log .level .0)
-        && heldToLevel (r .log)
-        && nextNotHeld (r .log)) ⌝ }
+        (marksInOrder (logOn (h .log) (now (contents .entry)))
+        && arusReached (h .turn) (h .log .level .0)
+        && heldToLevel (logOn (h .log) (now (contents .entry)))
+        && nextNotHeld (logOn (h .log) (now (contents .entry)))) ⌝ }
 {
-    marks_in_order(r.log)
-        & arus_reached(r.turn, r.log.level)
-        & held_to_level(r.log)
-        & next_not_held(r.log)
+    marks_in_order(h.log, contents)
+        & arus_reached(h.turn, h.log.level)
+        & held_to_level(h.log, contents)
+        & next_not_held(h.log, contents)
 }
 
-// Any values of the struct. Ruled out: a record with a gap below its level; one whose token is
-// another ring's.
+// Any values of the head and any contents. Ruled out: a record with a gap below its level; one whose token
+// is another ring's.
+pub fn is_whole_on(h: Head, contents: &[u8], waiting: &[u8]) -> bool
+    requires { ⌜ (length (now contents) ≡ heldContents) × (length (now waiting) ≡ postContents) ⌝ }
+    ensures { λ b. ⌜ b ≡ whole (recordOn h (now (contents .entry)) (now (waiting .entry))) ⌝ }
+{
+    if !range::in_range(h, contents, waiting) {
+        return false;
+    }
+    members_agree(h, contents)
+        & marks_agree(h, contents)
+        & unused::unused_zero(h, contents, waiting)
+}
+
+// The same of a record by value.
 pub fn is_whole(r: Record) -> bool
     ensures { λ b. ⌜ b ≡ whole r ⌝ }
 {
-    if !range::in_range(r) {
-        return false;
-    }
-    members_agree(r) & marks_agree(r) & unused::unused_zero(r)
+    let contents = r.log.held.contents;
+    let waiting = r.posts.contents;
+    is_whole_on(head::head_of(r), &contents, &waiting)
 }

@@ -11,7 +11,7 @@ use lib.ListN.{length, getD, take, drop, length-append, length-take, length-drop
 use lib.Seq.{take-at, drop-at, drop-drop}
 use Rattle.frames.specs.Layout.{shortestToken}
 use Rattle.record.specs.Layout.{recordSize}
-use Rattle.station.specs.Answer.{outcomeOf}
+use Rattle.station.specs.Answer.{outcomeOf, isTaken}
 use Rattle.station.specs.Reply.{Reply, refused, followedBy, doneOf}
 use Rattle.record.specs.Lent.{noRecord}
 use Rattle.record.specs.Fresh.{fresh}
@@ -28,7 +28,7 @@ use Rattle.station.specs.declared.refusal.Refusal.{Refusal}
 use Rattle.station.specs.declared.refusal.Refusal.the-variants.{NoRoom}
 use Rattle.station.specs.declared.answer.Answer.the-variants.{Refused}
 use Rattle.station.proofs.ReplyGood.{founded-either}
-use Rattle.totem.specs.Over.{idsIn, isTaken, stationAfter, foundOver}
+use Rattle.totem.specs.Over.{idsIn, stationAfter, foundOver}
 use Rattle.ring.specs.Run.{ringFoundable}
 use Rattle.ring.specs.OverBytes.{bytesFounded, Founding}
 use Rattle.ring.specs.Stations.{recordAt, withRecord, recordsAfter, ringFounded, recordsFounded, foundedUpTo, ringAfter, FoundedForDemand}

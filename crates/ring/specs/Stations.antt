@@ -14,7 +14,8 @@ use Rattle.record.specs.Lent.{noRecord}
 use Rattle.station.specs.Reply.{Reply, refused, doneOf, followedBy, mostFrames}
 use Rattle.station.specs.Within.{framesIn}
 use Rattle.station.specs.declared.refusal.Refusal.the-variants.{NoRoom}
-use Rattle.totem.specs.Over.{idsIn, isTaken, stationAfter, foundOver, postOver, arriveOver}
+use Rattle.station.specs.Answer.{isTaken}
+use Rattle.totem.specs.Over.{idsIn, stationAfter, foundOver, postOver, arriveOver}
 use Rattle.ring.specs.OverBytes.{bytesFounded, Founding}
 
 -- ---- a place

@@ -1,9 +1,9 @@
 -- Arrival, question by question.
 use Prim.Native.Nat.{ℕ, suc, _+_, _-_, _<_, _≤_}
 use mathlib.Core.Path.{_≡_, refl, sym, _∙_}
-use mathlib.Core.Bool.{Bool, true, false, not, _||_}
+use mathlib.Core.Bool.{Bool, true, false, not, _||_, _&&_, and-false, cond}
 use mathlib.Core.List.{List, []}
-use borrow.Author.Tests.{le-leb, lt-leb, le-ltb, lt-ltb, eq-eqb, ne-eqb}
+use borrow.Author.Tests.{leb-true, le-leb, lt-leb, le-ltb, lt-ltb, eq-eqb, ne-eqb}
 use native.Mathlib.Nat.{sub-zero}
 use native.Mathlib.Numerals.{add-one}
 use native.Mathlib.Omega.{arith}
@@ -19,6 +19,7 @@ use Rattle.frames.specs.declared.message.Message.{Message}
 use Rattle.frames.specs.declared.token.Token.{Token}
 use Rattle.frames.specs.declared.reader.Reading.{Reading}
 use Rattle.frames.specs.declared.reader.Answer.the-variants.{Refused as Unreadable, IsMessage, IsToken}
+use Rattle.frames.proofs.Facts.{part}
 use Rattle.record.specs.Size.{mostHeld}
 use Rattle.record.specs.Count.{everyFrom}
 use Rattle.record.specs.Held.{holds}
@@ -224,20 +225,27 @@ module _ (r : Record) (frame : List ℕ) (reading : Reading) (reads : reading �
 -- ---- 1 and 2
 
 module _ (r : Record) (frame : List ℕ) (frames deliveries : ℕ) where
-  pub arrived-frameless : frames < mostFrames → arrived r frame frames deliveries ≡ refused r NoRoom
+  abbrev fits : Bool
+  fits = leb mostFrames frames && leb mostDeliveries deliveries
+
+  pub arrived-roomless : fits ≡ false → arrived r frame frames deliveries ≡ refused r NoRoom
   unfolding arrived
-  arrived-frameless h = rw (lt-leb mostFrames frames h)
+  arrived-roomless e = rw e
 
-  module _ (room : mostFrames ≤ frames) where
-    pub arrived-roomless : deliveries < mostDeliveries → arrived r frame frames deliveries ≡ refused r NoRoom
-    unfolding arrived
-    arrived-roomless h = rw (le-leb mostFrames frames room, lt-leb mostDeliveries deliveries h)
+  pub arrived-not-whole : whole r ≡ false → arrived r frame frames deliveries ≡ refused r (cond fits NotWhole NoRoom)
+  unfolding arrived
+  arrived-not-whole e = rw e (not-whole fits)
+    where
+      not-whole : (room : Bool) → asks r room NoRoom (refused r NotWhole) ≡ refused r (cond room NotWhole NoRoom)
+      not-whole true = refl
+      not-whole false = refl
 
-    module _ (enough : mostDeliveries ≤ deliveries) where
-      pub arrived-not-whole : whole r ≡ false → arrived r frame frames deliveries ≡ refused r NotWhole
-      unfolding arrived
-      arrived-not-whole f = rw (le-leb mostFrames frames room, le-leb mostDeliveries deliveries enough, f)
+  pub arrived-passes : fits ≡ true → whole r ≡ true → arrived r frame frames deliveries ≡ frameArrived r frame (readOf frame)
+  unfolding arrived
+  arrived-passes e f = rw (e, f)
 
-      pub arrived-passes : whole r ≡ true → arrived r frame frames deliveries ≡ frameArrived r frame (readOf frame)
-      unfolding arrived
-      arrived-passes f = rw (le-leb mostFrames frames room, le-leb mostDeliveries deliveries enough, f)
+  pub both-fit : fits ≡ true → (mostFrames ≤ frames) × (mostDeliveries ≤ deliveries)
+  both-fit e = (
+    leb-true mostFrames frames (part e (λ (f : leb mostFrames frames ≡ false). rw f)),
+    leb-true mostDeliveries deliveries (part e (λ (f : leb mostDeliveries deliveries ≡ false). simp (f, and-false))),
+  )

@@ -1,43 +1,51 @@
--- Resending, question by question.
-use Prim.Native.Nat.{ℕ, _-_, _≤_, _<_}
-use mathlib.Core.Path.{_≡_, _∙_}
-use mathlib.Core.Bool.{true, false}
+-- Resending, of a whole record and of one that is not.
+use Prim.Native.Nat.{ℕ, _-_, _≤_}
+use mathlib.Core.Path.{_≡_, refl, _∙_}
+use mathlib.Core.Bool.{Bool, true, false, _&&_, cond}
 use mathlib.Core.List.{List, []}
-use borrow.Author.Tests.{le-leb, lt-leb, eq-eqb, ne-eqb}
 use native.Mathlib.Nat.{sub-zero}
 use native.Mathlib.Omega.{arith}
 use lib.ListN.{length, take}
+use lib.Dec.{leb}
 use lib.Seq.{sets, length-take-le}
 use Rattle.words.proofs.StoreLaws.{front-stored}
 use Rattle.frames.specs.Layout.{longestToken}
-use Rattle.record.specs.Turn.{remembered}
+use Rattle.record.specs.Turn.{hasLeave, remembered}
 use Rattle.record.specs.Whole.{whole}
 use Rattle.record.specs.declared.Record.{Record}
 use Rattle.record.specs.declared.turn.Turn.{Turn}
 use Rattle.record.proofs.WholeFacts.{whole-good}
-use Rattle.station.specs.Reply.{refused, followedBy, mostFrames}
+use Rattle.station.specs.Reply.{refused, asks, followedBy, mostFrames}
 use Rattle.station.specs.Resend.{resent}
+use Rattle.station.specs.Door.{resendAnswer, resendBytes}
 use Rattle.station.specs.declared.refusal.Refusal.the-variants.{NoRoom, NotWhole, NoLeave}
-use Rattle.station.specs.declared.answer.Answer.the-variants.{Resent}
+use Rattle.station.specs.declared.answer.Answer.the-variants.{Refused, Resent}
 
 module _ (r : Record) (room : ℕ) where
-  pub resent-roomless : room < mostFrames → resent r room ≡ refused r NoRoom
+  pub resent-not-whole : whole r ≡ false → resent r room ≡ refused r (cond (leb mostFrames room) NotWhole NoRoom)
   unfolding resent
-  resent-roomless h = rw (lt-leb mostFrames room h)
+  resent-not-whole e = rw e (not-whole (leb mostFrames room))
+    where
+      not-whole : (fits : Bool) → asks r fits NoRoom (refused r NotWhole) ≡ refused r (cond fits NotWhole NoRoom)
+      not-whole true = refl
+      not-whole false = refl
 
-  module _ (enough : mostFrames ≤ room) where
-    pub resent-not-whole : whole r ≡ false → resent r room ≡ refused r NotWhole
-    unfolding resent
-    resent-not-whole e = rw (le-leb mostFrames room enough, e)
-
-    module _ (w : whole r ≡ true) where
-      pub resent-no-leave : r .turn .size ≡ 0 → resent r room ≡ refused r NoLeave
-      unfolding resent
-      resent-no-leave h = rw (le-leb mostFrames room enough, w, eq-eqb (r .turn .size) 0 h)
-
-      pub resent-taken : (r .turn .size ≡ 0 → ⊥) → resent r room ≡ record { answer = Resent (r .turn .size); rec = r; frames = remembered (r .turn); deliveries = [] }
-      unfolding resent
-      resent-taken h = rw (le-leb mostFrames room enough, w, ne-eqb (r .turn .size) 0 h)
+  pub resent-whole : whole r ≡ true
+      → resent r room ≡ record { answer = resendAnswer (r .turn) room; rec = r; frames = resendBytes (r .turn) room; deliveries = [] }
+  unfolding resent
+  resent-whole e = rw e (is-whole (leb mostFrames room) (hasLeave (r .turn)))
+    where
+      is-whole : (fits leave : Bool)
+          → asks r fits NoRoom (asks r leave NoLeave (record { answer = Resent (r .turn .size); rec = r; frames = remembered (r .turn); deliveries = [] }))
+          ≡ record {
+            answer = cond fits (cond leave (Resent (r .turn .size)) (Refused NoLeave)) (Refused NoRoom);
+            rec = r;
+            frames = cond (fits && leave) (remembered (r .turn)) [];
+            deliveries = [];
+          }
+      is-whole true true = refl
+      is-whole true false = refl
+      is-whole false leave = refl
 
 -- a whole record's token fits
 pub token-fits : (r : Record) → whole r ≡ true → r .turn .size ≤ longestToken

@@ -1,6 +1,8 @@
 -- An answer in document 01's terms: the question that is answered 'no', what happened, the output counts in bytes, and the id in the
 -- notice 'deaf'. [document 01, Questions at the door]
 use Prim.Native.Nat.{ℕ}
+use mathlib.Core.Bool.{Bool}
+use lib.Dec.{eqb}
 use Rattle.frames.specs.Layout.{shortestToken}
 use Rattle.station.specs.Refusal.{refusalNumber}
 use Rattle.station.specs.declared.answer.Answer.{Answer}
@@ -20,3 +22,7 @@ outcomeOf (Had n) = happened 4 0 n 0
 outcomeOf (Ahead n) = happened 5 0 n 0
 outcomeOf (Accepted frames deliveries deaf) = happened 6 frames deliveries deaf
 outcomeOf (Resent n) = happened 7 n 0 0
+
+-- a call was taken where no question was answered 'no'
+abbrev pub isTaken : Answer → Bool
+isTaken a = eqb (outcomeOf a .refusal) 0

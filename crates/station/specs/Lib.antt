@@ -9,6 +9,7 @@ pub mod Deliver
 pub mod Message
 pub mod Visit
 pub mod Arrive
+pub mod Door
 pub mod Within
 pub mod EveryReply
 pub mod EveryArrival

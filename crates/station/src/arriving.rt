@@ -10,6 +10,7 @@ ghost use Rattle.frames.specs.Read.{readOf};
 ghost use Rattle.record.specs.Whole.{whole};
 ghost use Rattle.station.specs.Reply.{doneOf, followedBy, mostFrames, mostDeliveries};
 ghost use Rattle.station.specs.Arrive.{readerRefusal, coversHeld, messageArrived, tokenArrived, frameArrived, arrived};
+use crate::answer;
 use crate::done;
 use crate::done::Done;
 use crate::hearing;
@@ -139,6 +140,25 @@ fn frame_arrived(rec: Record, frame: &[u8], frames: &mut [u8], deliveries: &mut 
     }
 }
 
+// Arrival at a whole record. Ruled out: a frame read where there is no room; a buffer of just enough bytes
+// refused.
+pub fn arrive_whole(rec: Record, frame: &[u8], frames: &mut [u8], deliveries: &mut [u8]) -> Done
+    requires { ⌜ whole rec ≡ true ⌝ }
+    ensures { λ r. ⌜
+        (r ≡ doneOf (arrived rec (now (frame .entry)) (length (now (frames .entry))) (length (now (deliveries .entry)))))
+        × (now (frames .exit) ≡ followedBy
+        (arrived rec (now (frame .entry)) (length (now (frames .entry))) (length (now (deliveries .entry))) .frames)
+        (now (frames .entry)))
+        × (now (deliveries .exit) ≡ followedBy
+        (arrived rec (now (frame .entry)) (length (now (frames .entry))) (length (now (deliveries .entry))) .deliveries)
+        (now (deliveries .entry))) ⌝ }
+{
+    if !room::arrival_fits(frames.len(), deliveries.len()) {
+        return done::refuse(rec, Refusal::NoRoom);
+    }
+    frame_arrived(rec, frame, frames, deliveries)
+}
+
 // A frame of any bytes and length arrives. Ruled out: every message 'ahead'; tokens passed along
 // untouched.
 pub fn arrive_step(rec: Record, frame: &[u8], frames: &mut [u8], deliveries: &mut [u8]) -> Done
@@ -151,14 +171,12 @@ pub fn arrive_step(rec: Record, frame: &[u8], frames: &mut [u8], deliveries: &mu
         (arrived rec (now (frame .entry)) (length (now (frames .entry))) (length (now (deliveries .entry))) .deliveries)
         (now (deliveries .entry))) ⌝ }
 {
-    if frames.len() < room::MOST_FRAMES {
-        return done::refuse(rec, Refusal::NoRoom);
-    }
-    if deliveries.len() < room::MOST_DELIVERIES {
-        return done::refuse(rec, Refusal::NoRoom);
-    }
     if !record::is_whole(rec) {
-        return done::refuse(rec, Refusal::NotWhole);
+        let room = room::arrival_fits(frames.len(), deliveries.len());
+        return Done {
+            answer: answer::not_whole(room),
+            rec,
+        };
     }
-    frame_arrived(rec, frame, frames, deliveries)
+    arrive_whole(rec, frame, frames, deliveries)
 }

@@ -1,31 +1,36 @@
 -- The calls over C do what the station's definitions say on the record in the lent bytes.
 use Prim.Native.Nat.{ℕ, _*_, _/_, _%_, _-_, _<_, _≤_}
-use mathlib.Core.Path.{_≡_, refl, sym, _∙_}
-use mathlib.Core.Bool.{Bool, true, false, _&&_, and-false}
-use mathlib.Core.List.{List, [], _++_}
+use mathlib.Core.Path.{_≡_, refl, sym, ap, _∙_}
+use mathlib.Core.Bool.{Bool, true, false, _&&_, and-false, cond}
+use mathlib.Core.List.{List, [], _++_, append-nil}
 use borrow.Author.Tests.{le-leb, lt-leb, eq-eqb, ne-eqb, eqb-true, eqb-false}
 use native.Mathlib.Nat.{sub-zero}
 use native.Mathlib.Omega.{arith}
-use lib.ListN.{length, take, drop}
+use lib.ListN.{length, take, drop, drop-of-length-le}
 use lib.Dec.{leb, eqb}
 use lib.Seq.{take-at}
 use Rattle.words.specs.Run.{words}
 use Rattle.words.proofs.RunLaws.{length-words}
 use Rattle.frames.proofs.Facts.{part}
-use Rattle.record.specs.Size.{mostMembers}
+use Rattle.frames.specs.Layout.{mostContent}
+use Rattle.record.specs.Size.{mostMembers, mostPosts}
 use Rattle.record.specs.Layout.{recordSize}
-use Rattle.record.specs.Bytes.{recordBytes}
+use Rattle.record.specs.Bytes.{recordBytes, recordOf}
+use Rattle.record.specs.Posts.{queued}
+use Rattle.record.specs.Head.{withPosts}
 use Rattle.record.specs.Whole.{whole}
 use Rattle.record.specs.Lent.{noRecord, lent}
-use Rattle.record.proofs.LentLaws.{other-length}
+use Rattle.record.proofs.LentLaws.{other-length, lent-of}
+use Rattle.record.specs.declared.turn.Turn.{Turn}
 use Rattle.record.specs.declared.Record.{Record}
 use Rattle.station.specs.Refusal.{refusalNumber}
-use Rattle.station.specs.Answer.{outcomeOf}
+use Rattle.station.specs.Answer.{outcomeOf, isTaken}
 use Rattle.station.specs.Reply.{Reply, refused, asks, followedBy, mostFrames, doneOf, mostDeliveries}
 use Rattle.station.specs.Found.{founded, foundedOn}
-use Rattle.station.specs.Post.{posted}
+use Rattle.station.specs.Post.{withPost, posted}
 use Rattle.station.specs.Resend.{resent}
 use Rattle.station.specs.Arrive.{arrived}
+use Rattle.station.specs.Door.{notWholeAnswer, postAnswer, resendAnswer, resendBytes}
 use Rattle.station.specs.declared.refusal.Refusal.{Refusal}
 use Rattle.station.specs.declared.refusal.Refusal.the-variants.{NoRoom, NotWhole}
 use Rattle.station.specs.declared.answer.Answer.{Answer}
@@ -33,7 +38,10 @@ use Rattle.station.specs.declared.answer.Answer.the-variants.{Refused}
 use Rattle.station.specs.declared.answer.Outcome.{Outcome}
 use Rattle.station.specs.declared.done.Done.{Done}
 use Rattle.station.proofs.RefusalLaws.{some-number}
-use Rattle.totem.specs.Over.{idsIn, isTaken, stationAfter, foundOver, postOver, arriveOver, resendOver}
+use Rattle.station.proofs.PostLaws.{posted-not-whole, posted-refused, asked-all, posted-taken}
+use Rattle.station.proofs.ResendLaws.{resent-not-whole, resent-whole}
+use Rattle.station.proofs.ArriveLaws.{arrived-not-whole}
+use Rattle.totem.specs.Over.{idsIn, stationAfter, foundOver, postOver, arriveOver, resendOver}
 
 -- ---- the record put back
 
@@ -52,6 +60,12 @@ pub put-refused : (done : Done) (a : Answer) (b : Bool) (s : List ℕ) → a ≡
 put-refused done a b s e t not-taken =
     let known : isTaken (done .answer) ≡ false = rw e at (sym t ∙ not-taken) in
     rw known
+
+-- a refusal leaves the bytes
+refused-after : (r : Record) (why : Refusal) (s : List ℕ) → s ≡ stationAfter (doneOf (refused r why)) s
+refused-after r why s =
+    let no : isTaken (Refused why) ≡ false = ne-eqb (refusalNumber why) 0 (some-number why) in
+    rw no
 
 -- ---- a posting or an arrival that is taken was made on a whole record, so on a record's length
 
@@ -72,23 +86,12 @@ arrive-whole r frame frames deliveries t =
 pub whole-long : (s : List ℕ) → whole (lent s) ≡ true → length s ≡ recordSize
 whole-long s w = eqb-true (length s) recordSize (part w (λ (f : eqb (length s) recordSize ≡ false). other-length s (eqb-false (length s) recordSize f)))
 
-pub post-long : (r : Record) (s : List ℕ) (service : ℕ) (content : List ℕ) (done : Done)
-    → r ≡ lent s
-    → done ≡ doneOf (posted r service content)
-    → isTaken (done .answer) ≡ true
-    → recordSize ≤ length s
-post-long r s service content done e d t =
-    let w = post-whole r service content (rw d at t) in
-    omega (arith, whole-long s (rw e at w))
+pub whole-enough : (s : List ℕ) → whole (lent s) ≡ true → recordSize ≤ length s
+whole-enough s w = omega (arith, whole-long s w)
 
-pub arrive-long : (r : Record) (s frame : List ℕ) (frames deliveries : ℕ) (done : Done)
-    → r ≡ lent s
-    → done ≡ doneOf (arrived r frame frames deliveries)
-    → isTaken (done .answer) ≡ true
-    → recordSize ≤ length s
-arrive-long r s frame frames deliveries done e d t =
-    let w = arrive-whole r frame frames deliveries (rw d at t) in
-    omega (arith, whole-long s (rw e at w))
+-- the record in bytes that are whole
+pub whole-lent : (s : List ℕ) → whole (lent s) ≡ true → lent s ≡ recordOf s
+whole-lent s w = lent-of s (whole-long s w)
 
 -- ---- the list of members
 
@@ -136,18 +139,56 @@ module _ (reply : Reply) (done : Done) (a : Answer) (o : Outcome) (d : done ≡ 
   left : (s s′ : List ℕ) → s′ ≡ stationAfter done s → s′ ≡ stationAfter (doneOf reply) s
   left s s′ g = rw d at g
 
-pub post-over : (s : List ℕ) (service : ℕ) (content : List ℕ) (r : Record) (done : Done) (a : Answer) (o : Outcome) (s′ : List ℕ)
-    → r ≡ lent s
-    → done ≡ doneOf (posted r service content)
-    → s′ ≡ stationAfter done s
-    → a ≡ done .answer
+module _ (s : List ℕ) (service : ℕ) (content : List ℕ) (o : Outcome) where
+  pub post-not-whole : whole (lent s) ≡ false
+      → o ≡ outcomeOf (Refused NotWhole)
+      → (o ≡ outcomeOf (postOver s service content .answer)) × (s ≡ stationAfter (doneOf (postOver s service content)) s)
+  unfolding postOver
+  post-not-whole w f = rw (posted-not-whole (lent s) service content w) (f, refl)
+
+  module _ (n : ℕ) (a : Answer) (w : whole (lent s) ≡ true) (counts : n ≡ recordOf s .posts .count) (asked : a ≡ postAnswer n service content) (f : o ≡ outcomeOf a) where
+    known : a ≡ postAnswer (lent s .posts .count) service content
+    known = rw (whole-lent s w, ← counts) asked
+
+    pub post-refused : isTaken a ≡ false
+        → (o ≡ outcomeOf (postOver s service content .answer)) × (s ≡ stationAfter (doneOf (postOver s service content)) s)
+    unfolding postOver
+    post-refused t =
+        let done = posted-refused (lent s) service content w (rw known at t) in
+        let refusal : isTaken (postAnswer (lent s .posts .count) service content) ≡ false = rw known at t in
+        let after : stationAfter (doneOf (posted (lent s) service content)) s ≡ s = ap (λ (d : Done). stationAfter d s) done ∙ rw refusal in
+        (f ∙ ap outcomeOf known ∙ ap (λ (d : Done). outcomeOf (d .answer)) (sym done), sym after)
+
+    pub post-count-fits : isTaken a ≡ true → (length content ≤ mostContent) × (recordOf s .posts .count < mostPosts)
+    post-count-fits t = rw (whole-lent s w) at (asked-all (lent s) service content w (rw known at t))
+
+    pub post-taken : (s′ : List ℕ) → isTaken a ≡ true
+        → s′ ≡ recordBytes (withPosts (recordOf s) (queued (recordOf s .posts) service content))
+        → (o ≡ outcomeOf (postOver s service content .answer)) × (s′ ≡ stationAfter (doneOf (postOver s service content)) s)
+    unfolding postOver
+    post-taken s′ t e =
+        let done = posted-taken (lent s) service content w (rw known at t) in
+        let none : drop recordSize s ≡ [] = drop-of-length-le s {i = recordSize} (omega (arith, whole-long s w)) in
+        let taken : isTaken (postAnswer (lent s .posts .count) service content) ≡ true = rw known at t in
+        let tail : recordBytes (withPost (lent s) service content) ++ drop recordSize s ≡ recordBytes (withPost (lent s) service content) = rw (none, append-nil) in
+        let after : stationAfter (doneOf (posted (lent s) service content)) s ≡ recordBytes (withPost (lent s) service content) ++ drop recordSize s = ap (λ (d : Done). stationAfter d s) done ∙ rw taken in (
+          f ∙ ap outcomeOf known ∙ ap (λ (d : Done). outcomeOf (d .answer)) (sym done),
+          e ∙ ap (λ (r : Record). recordBytes (withPost r service content)) (sym (whole-lent s w)) ∙ sym tail ∙ sym after,
+        )
+
+pub arrive-not-whole : (s frame out told : List ℕ) (fits : Bool) (a : Answer) (o : Outcome)
+    → whole (lent s) ≡ false
+    → fits ≡ (leb mostFrames (length out) && leb mostDeliveries (length told))
+    → a ≡ notWholeAnswer fits
     → o ≡ outcomeOf a
-    → (o ≡ outcomeOf (postOver s service content .answer)) × (s′ ≡ stationAfter (doneOf (postOver s service content)) s)
-unfolding postOver
-post-over s service content r done a o s′ l d g e f =
-    let reply = posted (lent s) service content in
-    let d′ : done ≡ doneOf reply = rw l at d in
-    (said reply done a o d′ e f, left reply done a o d′ e f s s′ g)
+    → (o ≡ outcomeOf (arriveOver s frame (length out) (length told) .answer))
+    × (s ≡ stationAfter (doneOf (arriveOver s frame (length out) (length told))) s)
+    × (out ≡ followedBy (arriveOver s frame (length out) (length told) .frames) out)
+    × (told ≡ followedBy (arriveOver s frame (length out) (length told) .deliveries) told)
+unfolding arriveOver
+arrive-not-whole s frame out told fits a o w e f g =
+    let reply = arrived-not-whole (lent s) frame (length out) (length told) w in
+    rw (reply, ← e) (g ∙ ap outcomeOf f, refused-after (lent s) (cond fits NotWhole NoRoom) s, refl, refl)
 
 pub arrive-over : (s frame out told : List ℕ) (r : Record) (done : Done) (a : Answer) (o : Outcome) (s′ out′ told′ : List ℕ)
     → r ≡ lent s
@@ -165,16 +206,24 @@ arrive-over s frame out told r done a o s′ out′ told′ l d g e f =
     let d′ : (done ≡ doneOf reply) × (out′ ≡ followedBy (reply .frames) out) × (told′ ≡ followedBy (reply .deliveries) told) = rw l at d in
     (said reply done a o (d′ .0) e f, left reply done a o (d′ .0) e f s s′ g, d′ .1, d′ .2)
 
-pub resend-over : (s out : List ℕ) (r : Record) (done : Done) (a : Answer) (o : Outcome) (out′ : List ℕ)
-    → r ≡ lent s
-    → (done ≡ doneOf (resent r (length out))) × (out′ ≡ followedBy (resent r (length out) .frames) out)
-    → a ≡ done .answer
-    → o ≡ outcomeOf a
-    → (o ≡ outcomeOf (resendOver s (length out) .answer)) × (out′ ≡ followedBy (resendOver s (length out) .frames) out)
-unfolding resendOver
-resend-over s out r done a o out′ l d e f =
-    let d′ : (done ≡ doneOf (resent (lent s) (length out))) × (out′ ≡ followedBy (resent (lent s) (length out) .frames) out) = rw l at d in
-    (said (resent (lent s) (length out)) done a o (d′ .0) e f, d′ .1)
+module _ (s out : List ℕ) (a : Answer) (o : Outcome) where
+  pub resend-not-whole : (fits : Bool) → whole (lent s) ≡ false
+      → fits ≡ leb mostFrames (length out)
+      → a ≡ notWholeAnswer fits
+      → o ≡ outcomeOf a
+      → (o ≡ outcomeOf (resendOver s (length out) .answer)) × (out ≡ followedBy (resendOver s (length out) .frames) out)
+  unfolding resendOver
+  resend-not-whole fits w e f g = rw (resent-not-whole (lent s) (length out) w, ← e) (g ∙ ap outcomeOf f, refl)
+
+  pub resend-over : (t : Turn) (out′ : List ℕ) → whole (lent s) ≡ true
+      → t ≡ recordOf s .turn
+      → (a ≡ resendAnswer t (length out)) × (out′ ≡ followedBy (resendBytes t (length out)) out)
+      → o ≡ outcomeOf a
+      → (o ≡ outcomeOf (resendOver s (length out) .answer)) × (out′ ≡ followedBy (resendOver s (length out) .frames) out)
+  unfolding resendOver
+  resend-over t out′ w e d g =
+      let turn : t ≡ lent s .turn = rw (whole-lent s w) e in
+      rw (resent-whole (lent s) (length out) w, ← turn) (g ∙ ap outcomeOf (d .0), d .1)
 
 module _ (s members out : List ℕ) (own ring : ℕ) where
   pub found-over-roomless : (o : Outcome)

@@ -11,6 +11,7 @@ use Rattle.record.specs.Bytes.{recordBytes}
 use Rattle.record.specs.Lent.{noRecord, lent}
 use Rattle.record.proofs.LentLaws.{lent-of}
 use Rattle.record.proofs.RoundTrip.{record-restored}
+use Rattle.station.specs.Answer.{isTaken}
 use Rattle.station.specs.Reply.{Reply, doneOf}
 use Rattle.station.specs.EveryReply.{Good}
 use Rattle.station.proofs.ReplyGood.{posted-good, founded-whole}
@@ -18,7 +19,7 @@ use Rattle.station.proofs.ArrivedGood.{arrived-good}
 use Rattle.station.specs.declared.refusal.Refusal.{Refusal}
 use Rattle.station.specs.declared.answer.Answer.{Answer}
 use Rattle.station.specs.declared.answer.Answer.the-variants.{Refused, Founded, Posted, Kept, Had, Ahead, Accepted, Resent}
-use Rattle.totem.specs.Over.{isTaken, stationAfter, foundOver, postOver, arriveOver, PostedThere, ArrivedThere, FoundedThere}
+use Rattle.totem.specs.Over.{stationAfter, foundOver, postOver, arriveOver, PostedThere, ArrivedThere, FoundedThere}
 use Rattle.totem.proofs.OverLaws.{post-whole, arrive-whole, whole-long}
 
 -- a call that isn't taken is refused

@@ -11,7 +11,7 @@ use Rattle.frames.specs.Layout.{shortestToken}
 use Rattle.record.specs.Layout.{recordSize}
 use Rattle.record.specs.Bytes.{recordBytes}
 use Rattle.record.specs.Lent.{noRecord, lent}
-use Rattle.station.specs.Answer.{outcomeOf}
+use Rattle.station.specs.Answer.{isTaken}
 use Rattle.station.specs.Reply.{Reply, doneOf}
 use Rattle.station.specs.Found.{founded}
 use Rattle.station.specs.Post.{posted}
@@ -24,10 +24,6 @@ use Rattle.station.specs.declared.answer.Answer.the-variants.{Founded}
 -- the ids in a list of members; an odd number of bytes is no list
 unfoldable pub idsIn : List ℕ → List ℕ
 idsIn s = cond (eqb (length s % 2) 0) (words 2 (length s / 2) s) []
-
--- a call was taken where no question was answered 'no'
-abbrev pub isTaken : Answer → Bool
-isTaken a = eqb (outcomeOf a .refusal) 0
 
 -- the station's bytes after a call: those of its record, followed by what stood after them; a refusal leaves every byte as it was
 abbrev pub stationAfter : Done → List ℕ → List ℕ

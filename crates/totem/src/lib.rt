@@ -1,5 +1,6 @@
 // The calls for hosts in C: thin functions on numbers and byte slices (a pointer and a length each).
-// include/totem.h declares and documents them. A refusal writes no lent byte.
+// include/totem.h declares and documents them. A refusal writes no lent byte. Whether a record is whole is asked
+// of its bytes where they are lent.
 ghost use mathlib.Core.Path.{_≡_};
 ghost use mathlib.Core.Bool.{true};
 ghost use Prim.Native.Nat.{_≤_};
@@ -7,28 +8,22 @@ ghost use mathlib.Core.List.{[]};
 ghost use lib.ListN.{length};
 ghost use Rattle.record.specs.Layout.{recordSize};
 ghost use Rattle.record.specs.Lent.{noRecord};
-ghost use Rattle.station.specs.Answer.{outcomeOf};
+ghost use Rattle.station.specs.Answer.{outcomeOf, isTaken};
 ghost use Rattle.station.specs.Reply.{doneOf, followedBy};
 ghost use Rattle.station.specs.Found.{foundedOn};
-ghost use Rattle.totem.specs.Over.{idsIn, isTaken, stationAfter, foundOver, postOver, arriveOver, resendOver};
+ghost use Rattle.totem.specs.Over.{idsIn, stationAfter, foundOver, postOver, arriveOver, resendOver};
 use frames::RingNumber;
 use station::Answer;
 use station::Done;
 use station::Outcome;
 use station::Refusal;
 
-fn is_taken(a: Answer) -> bool
-    ensures { λ r. ⌜ r ≡ isTaken a ⌝ }
-{
-    station::outcome_of(a).refusal == 0
-}
-
 // The record back into the bytes that were lent, unless the call was refused.
 fn put_back(bytes: &mut [u8], done: Done)
     requires { ⌜ (isTaken (done .answer) ≡ true → recordSize ≤ length (now bytes)) ⌝ }
     ensures { λ _. ⌜ now (bytes .exit) ≡ stationAfter done (now (bytes .entry)) ⌝ }
 {
-    if is_taken(station::answer_of(done)) {
+    if station::is_taken(station::answer_of(done)) {
         record::encode(station::rec_of(done), bytes);
     }
 }
@@ -101,9 +96,15 @@ pub extern "C" fn totem_post(bytes: &mut [u8], service: u16, content: &[u8]) -> 
         (doneOf (postOver (now (bytes .entry)) service (now (content .entry))))
         (now (bytes .entry))) ⌝ }
 {
-    let done = station::post_step(record::record_in(bytes), service, content);
-    put_back(bytes, done);
-    station::outcome_of(station::answer_of(done))
+    if !record::is_whole_in(bytes) {
+        return station::outcome_of(Answer::Refused(Refusal::NotWhole));
+    }
+    let answer = station::post_answer(record::post_count(bytes), service, content);
+    if !station::is_taken(answer) {
+        return station::outcome_of(answer);
+    }
+    record::put_post(bytes, service, content);
+    station::outcome_of(answer)
 }
 
 // Arrival. Ruled out: every message 'ahead'; a record written with a refusal.
@@ -127,7 +128,11 @@ pub extern "C" fn totem_arrive(
         (arriveOver (now (bytes .entry)) (now (frame .entry)) (length (now (frames .entry))) (length (now (deliveries .entry))) .deliveries)
         (now (deliveries .entry))) ⌝ }
 {
-    let done = station::arrive_step(record::record_in(bytes), frame, frames, deliveries);
+    if !record::is_whole_in(bytes) {
+        let room = station::arrival_fits(frames.len(), deliveries.len());
+        return station::outcome_of(station::not_whole(room));
+    }
+    let done = station::arrive_whole(record::decode(bytes), frame, frames, deliveries);
     put_back(bytes, done);
     station::outcome_of(station::answer_of(done))
 }
@@ -141,6 +146,8 @@ pub extern "C" fn totem_resend(bytes: &[u8], frames: &mut [u8]) -> Outcome
         (resendOver (now (bytes .entry)) (length (now (frames .entry))) .frames)
         (now (frames .entry))) ⌝ }
 {
-    let done = station::resend_step(record::record_in(bytes), frames);
-    station::outcome_of(station::answer_of(done))
+    if !record::is_whole_in(bytes) {
+        return station::outcome_of(station::not_whole(station::resending_fits(frames.len())));
+    }
+    station::outcome_of(station::resend_whole(record::turn_in(bytes), frames))
 }

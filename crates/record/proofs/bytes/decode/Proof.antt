@@ -1,18 +1,11 @@
 use borrow.Author.Needs.{needs}
-use Rattle.record.proofs.GetLaws.{record-read}
+use mathlib.Core.Path.{_∙_}
+use Rattle.record.proofs.GetLaws.{decoded}
 use Rattle.record.proofs.bytes.decode.Statement.{statement}
 use Rattle.record.proofs.bytes.decode.Tie as tie
 
 returns : tie.Need-returns
-returns c = record-read _ _ _ _ _
-    (c .before .before .before .before .before .before .get-u16 .ensures)
-    (c .before .before .before .before .get-log .ensures)
-    (c .before .before .get-turn .ensures)
-    (c .get-posts .ensures)
+returns c = c .record-on .ensures ∙ decoded _ _ _ _ (c .before .get-head .ensures) (c .before .before .before .before .before .before .get-bytes .ensures) (c .before .before .before .get-bytes2 .ensures)
 
 pub decode-spec : {M : Type 1} → statement M
-decode-spec =
-    tie.close
-    (tie.spec (λ c κs. search needs) (λ c. search needs) (λ c. search needs) (λ c. search needs) (λ c κs. search needs)
-    (λ c. search needs) (λ c. search needs) (λ c. search needs) (λ c κs. search needs) (λ c. search needs)
-    (λ c. search needs) (λ c. search needs) (λ c κs. search needs) returns)
+decode-spec = tie.close (tie.spec (λ c. search needs) (λ c κs. search needs) (λ c. search needs) (λ c κs. search needs) (λ c κs. search needs) (λ c κs. search needs) returns)

@@ -1,26 +1,36 @@
+use native.Mathlib.Omega.{arith}
 use borrow.Author.Needs.{needs}
 use Rattle.record.proofs.Arrays.{RecordArrays}
-use Rattle.record.proofs.PutLaws.{record-stored}
+use Rattle.record.proofs.PutLaws.{encoded}
 use Rattle.record.proofs.bytes.encode.Statement.{statement}
 use Rattle.record.proofs.bytes.encode.Tie as tie
 
-returns : tie.Need-returns
-returns c =
-    let fields = c .before .before .before .before .before .before .before .before .before .before .before .before .before .before .before .before .before .good .0 .1 .1 .1 in
-    let arrays : RecordArrays (c .before .before .before .before .before .before .before .before .before .before .before .before .before .before .before .before .before .args .r) =
+arrays : (c : tie.Start) → RecordArrays (c .args .r)
+arrays c =
+    let fields = c .good .0 .1 .1 .1 in
     record {
       log = record { members = (let g = fields .0 in search needs); held = (let g = fields .0 .1 .1 .1 .1 .1 .1 .1 .1 .0 in search needs) };
       token = (let g = fields .1 .0 .1 .1 .1 .1 .1 .1 .1 .1 .0 in search needs);
       posts = (let g = fields .1 .1 .0 in search needs);
-    } in
-    record-stored _ _ _ _ _ _ arrays (c .before .before .before .before .before .before .before .before .before .before .before .before .before .before .before .before .before .pre)
-    (c .before .before .before .before .before .before .before .before .before .before .before .before .before .before .put-u16 .ensures)
-    (c .before .before .before .before .before .before .before .before .before .before .put-log .ensures)
-    (c .before .before .before .before .before .before .put-turn .ensures)
-    (c .before .before .put-posts .ensures)
+    }
+
+slice-aggregate-put-bytes : tie.Need-slice-aggregate-put-bytes
+slice-aggregate-put-bytes c = let long = arrays (c .before .before .before .before .before) .log .held .contents in search needs
+
+slice-aggregate-put-bytes-2 : tie.Need-slice-aggregate-put-bytes-2
+slice-aggregate-put-bytes-2 c = let long = arrays (c .before .before .before .before .before .before .before .before .before .before) .posts .contents in search needs
+
+put-bytes-requires : tie.Need-put-bytes-requires
+put-bytes-requires c κs = omega (arith, arrays (c .before .before .before .before .before) .log .held .contents, c .before .before .before .before .before .pre)
+
+put-bytes-requires-2 : tie.Need-put-bytes-requires-2
+put-bytes-requires-2 c κs = omega (arith, arrays (c .before .before .before .before .before .before .before .before .before .before) .posts .contents, c .before .before .before .before .before .before .before .before .before .before .pre)
+
+put-head-requires : tie.Need-put-head-requires
+put-head-requires c κs = omega (arith, c .before .before .before .before .before .before .before .before .before .before .before .before .before .before .before .pre, c .before .before .before .before .before .before .before .before .before .put-bytes .kept .0, c .before .before .before .before .put-bytes2 .kept .0)
+
+returns : tie.Need-returns
+returns c = encoded _ _ _ _ _ _ (arrays (c .before .before .before .before .before .before .before .before .before .before .before .before .before .before .before .before .before .before)) (c .before .before .before .before .before .before .before .before .before .before .before .before .before .before .before .before .before .before .pre) (c .before .before .before .before .before .before .before .before .before .before .before .before .put-bytes .ensures) (c .before .before .before .before .before .before .before .put-bytes2 .ensures) (c .before .before .before .head-of .ensures) (c .before .before .put-head .ensures)
 
 pub encode-spec : {M : Type 1} → statement M
-encode-spec =
-    tie.close
-    (tie.spec (λ c κs. search needs) (λ c κs. search needs) (λ c κs. search needs) (λ c κs. search needs)
-    (λ c. search needs) returns)
+encode-spec = tie.close (tie.spec slice-aggregate-put-bytes put-bytes-requires slice-aggregate-put-bytes-2 put-bytes-requires-2 (λ c κs. search needs) put-head-requires (λ c. search needs) returns)

@@ -1,4 +1,3 @@
-use mathlib.Core.Path.{refl}
 use borrow.Author.Needs.{needs}
 use Rattle.record.specs.Held.{holds}
 use Rattle.record.proofs.held.is_held.Statement.{statement}
@@ -6,9 +5,7 @@ use Rattle.record.proofs.held.is_held.Tie as tie
 
 returns : tie.Need-returns
 unfolding holds
-returns c = refl
+returns c = c .in-use .ensures
 
 pub is-held-spec : {M : Type 1} → statement M
-is-held-spec =
-    tie.close
-    (tie.spec (λ c. search needs) (λ c. search needs) (λ c. search needs) (λ c. search needs) (λ c. search needs) returns)
+is-held-spec = tie.close (tie.spec (λ c. search needs) (λ c. search needs) (λ c. search needs) (λ c κs. search needs) returns)

@@ -12,13 +12,12 @@ use Rattle.record.proofs.range.held_in_range.Tie as tie
 
 returns : tie.Need-returns
 returns c =
-    let start = c .before .before .before .before .before .before in
-    let senders : length (start .args .h .senders) ≡ mostHeld = (let g = start .good in search needs) in
-    let services : length (start .args .h .services) ≡ mostHeld = (let g = start .good in search needs) in
-    let lengths : length (start .args .h .lengths) ≡ mostHeld = (let g = start .good in search needs) in
-    let contents : length (start .args .h .contents) ≡ heldContents = (let g = start .good in search needs) in
-    let fits : (i : ℕ) → Fits w16 (getD (start .args .h .senders) i 0) = (λ i. let g = start .good in search needs) in
-    held-tested _ senders services lengths contents (λ i. omega (arith, fits i .fits)) _ _ (c .before .before .all-within-u16 .ensures) (c .all-within-u8 .ensures)
+    let start = c .before .before .before .before .before .before .before in
+    let senders : length (start .args .l .senders) ≡ mostHeld = (let g = start .good .0 .1 .1 .1 .1 .1 .1 in search needs) in
+    let services : length (start .args .l .services) ≡ mostHeld = (let g = start .good .0 .1 .1 .1 .1 .1 .1 in search needs) in
+    let lengths : length (start .args .l .lengths) ≡ mostHeld = (let g = start .good .0 .1 .1 .1 .1 .1 .1 in search needs) in
+    let fits : (i : ℕ) → Fits w16 (getD (start .args .l .senders) i 0) = (λ i. let g = start .good .0 .1 .1 .1 .1 .1 .1 in search needs) in
+    held-tested _ senders services lengths (start .pre) (λ i. omega (arith, fits i .fits)) _ _ (c .before .before .all-within-u16 .ensures) (c .all-within-u8 .ensures)
 
 pub held-in-range-spec : {M : Type 1} → statement M
 held-in-range-spec =

@@ -1,6 +1,7 @@
 use Prim.Native.Nat.{suc, _-_}
 use mathlib.Core.Bool.{not, _||_, Bool·not-not}
 use native.Mathlib.Numerals.{add-one}
+use native.Mathlib.Omega.{arith}
 use lib.ListN.{getD}
 use lib.Dec.{leb, eqb}
 use borrow.Author.Needs.{needs}
@@ -10,38 +11,42 @@ use Rattle.record.specs.Size.{mostHeld}
 use Rattle.record.specs.Held.{placeOf}
 use Rattle.record.specs.Whole.{numbersInRange}
 use Rattle.record.proofs.CountLaws.{Counting, count-starts, count-stops, count-goes, count-ends}
+use Rattle.record.proofs.RangeLaws.{numbers-below}
 use Rattle.record.proofs.range.numbers_in_range.Statement.{statement}
 use Rattle.record.proofs.range.numbers_in_range.Tie as tie
 
 abbrev Inv-loop : tie.InvT-loop
-Inv-loop senders safe i₀ i = Counting (λ n. leb n mostNumber || not (not (eqb (getD senders (placeOf n) 0) 0))) (suc safe) mostHeld i
+Inv-loop contents senders safe i₀ i = Counting (λ n. leb n mostNumber || not (not (eqb (getD senders (placeOf n) 0) 0))) (suc safe) mostHeld i
 
 abbrev μ-loop : tie.MeasureT-loop
-μ-loop senders safe i₀ i = mostHeld - i
+μ-loop contents senders safe i₀ i = mostHeld - i
 
 loop-holds : tie.Need-loop-holds Inv-loop μ-loop
 loop-holds c = count-starts _ _ _
 
 returns : tie.Need-returns Inv-loop μ-loop
+returns c = numbers-below _ (omega (arith, c .if1 .taken))
+
+returns-2 : tie.Need-returns-2 Inv-loop μ-loop
 unfolding numbersInRange
-returns c =
+returns-2 c =
     count-stops _ _ _ _
     (c .before .before .loop .inv) (c .before .loop-test .taken)
-    (rw (Bool·not-not, ← add-one (c .before .before .before .before .args .l .safe .0)) (not-true _ (c .if1 .taken)))
+    (rw (Bool·not-not, ← add-one (c .before .before .before .before .before .args .l .safe .0)) (not-true _ (c .if2 .taken)))
 
 loop-again : tie.Need-loop-again Inv-loop μ-loop
 loop-again c =
     count-goes _ _ _ _
     (c .before .before .loop .inv) (c .before .loop-test .taken)
-    (rw (Bool·not-not, ← add-one (c .before .before .before .before .args .l .safe .0)) (not-false _ (c .if1 .left)))
+    (rw (Bool·not-not, ← add-one (c .before .before .before .before .before .args .l .safe .0)) (not-false _ (c .if2 .left)))
 
-returns-2 : tie.Need-returns-2 Inv-loop μ-loop
+returns-3 : tie.Need-returns-3 Inv-loop μ-loop
 unfolding numbersInRange
-returns-2 c = count-ends _ _ _ _ (c .before .loop .inv) (c .loop-test .left)
+returns-3 c = count-ends _ _ _ _ (c .before .loop .inv) (c .loop-test .left)
 
 pub numbers-in-range-spec : {M : Type 1} → statement M
 numbers-in-range-spec =
     tie.close
-    (tie.spec Inv-loop μ-loop loop-holds (λ c. search needs) (λ c. search needs) (λ c. search needs)
-    (λ c. search needs) (λ c. search needs) (λ c. search needs) returns (λ c. search needs) (λ c. search needs)
-    loop-again returns-2)
+    (tie.spec Inv-loop μ-loop (λ c. search needs) (λ c. search needs) returns loop-holds (λ c. search needs)
+    (λ c. search needs) (λ c. search needs) (λ c. search needs) (λ c. search needs) (λ c. search needs) returns-2
+    (λ c. search needs) (λ c. search needs) loop-again returns-3)

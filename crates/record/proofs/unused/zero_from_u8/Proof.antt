@@ -5,12 +5,15 @@ use Rattle.record.proofs.unused.zero_from_u8.Statement.{statement}
 use Rattle.record.proofs.unused.zero_from_u8.Tie as tie
 
 returns : tie.Need-returns
-returns c = past-end _ _ (c .if1 .taken)
+returns c = rw (c .before .if1 .taken) (c .all-zero-u8 .ensures)
 
 returns-2 : tie.Need-returns-2
-returns-2 c = rw to-end at (c .all-zero-u8 .ensures)
+returns-2 c = past-end _ _ (c .if2 .taken)
+
+returns-3 : tie.Need-returns-3
+returns-3 c = rw to-end at (c .all-zero-u82 .ensures)
 
 pub zero-from-u8-spec : {M : Type 1} → statement M
 zero-from-u8-spec =
     tie.close
-    (tie.spec returns (λ c. search needs) (λ c. search needs) (λ c. search needs) (λ c κs. search needs) returns-2)
+    (tie.spec (λ c κs. search needs) returns returns-2 (λ c. search needs) (λ c. search needs) (λ c. search needs) (λ c κs. search needs) returns-3)

@@ -2,6 +2,7 @@ use Prim.Native.Nat.{suc, _-_}
 use mathlib.Core.Path.{sym, _∙_}
 use borrow.Author.Needs.{needs}
 use borrow.Author.Tests.{not-true, not-false}
+use Rattle.record.specs.Head.{logOn}
 use Rattle.record.specs.Held.{holds}
 use Rattle.record.specs.Whole.{heldToLevel}
 use Rattle.record.proofs.CountLaws.{Running, run-starts, run-stops, run-goes, run-ends}
@@ -9,10 +10,10 @@ use Rattle.record.proofs.whole.held_to_level.Statement.{statement}
 use Rattle.record.proofs.whole.held_to_level.Tie as tie
 
 abbrev Inv-loop : tie.InvT-loop
-Inv-loop l level n₀ n = Running (holds l) (l .safe .0) (l .level .0) n
+Inv-loop l contents level n₀ n = Running (holds (logOn l contents)) (l .safe .0) (l .level .0) n
 
 abbrev μ-loop : tie.MeasureT-loop
-μ-loop l level n₀ n = suc level - n
+μ-loop l contents level n₀ n = suc level - n
 
 loop-holds : tie.Need-loop-holds Inv-loop μ-loop
 loop-holds c = run-starts _ _ _

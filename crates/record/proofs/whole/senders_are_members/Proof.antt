@@ -1,4 +1,5 @@
 use Prim.Native.Nat.{_-_}
+use mathlib.Core.Path.{sym, _∙_}
 use lib.ListN.{length}
 use mathlib.Core.Bool.{_||_}
 use lib.Dec.{eqb}
@@ -7,7 +8,6 @@ use borrow.Author.Tests.{not-true, not-false}
 use Rattle.words.proofs.ScanLaws.{Scanning, scan-starts, scan-stops, scan-goes, scan-ends}
 use Rattle.record.specs.Members.{isMember}
 use Rattle.record.specs.Whole.{sendersAreMembers}
-use Rattle.record.proofs.MemberLaws.{sender-tested}
 use Rattle.record.proofs.whole.senders_are_members.Statement.{statement}
 use Rattle.record.proofs.whole.senders_are_members.Tie as tie
 
@@ -22,18 +22,10 @@ loop-holds c = scan-starts _ _
 
 returns : tie.Need-returns Inv-loop μ-loop
 unfolding sendersAreMembers
-returns c =
-    scan-stops _ _ _
-    (c .before .before .before .before .loop .inv)
-    (c .before .before .before .loop-test .taken)
-    (sender-tested _ _ _ _ (c .before .is-member .ensures) (not-true _ (c .if1 .taken)))
+returns c = scan-stops _ _ _ (c .before .before .before .before .loop .inv) (c .before .before .before .loop-test .taken) (sym (c .before .is-sender .ensures) ∙ not-true _ (c .if1 .taken))
 
 loop-again : tie.Need-loop-again Inv-loop μ-loop
-loop-again c =
-    scan-goes _ _ _
-    (c .before .before .before .before .loop .inv)
-    (c .before .before .before .loop-test .taken)
-    (sender-tested _ _ _ _ (c .before .is-member .ensures) (not-false _ (c .if1 .left)))
+loop-again c = scan-goes _ _ _ (c .before .before .before .before .loop .inv) (c .before .before .before .loop-test .taken) (sym (c .before .is-sender .ensures) ∙ not-false _ (c .if1 .left))
 
 returns-2 : tie.Need-returns-2 Inv-loop μ-loop
 unfolding sendersAreMembers

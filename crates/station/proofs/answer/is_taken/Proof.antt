@@ -1,6 +1,6 @@
 use borrow.Author.Needs.{needs}
-use Rattle.totem.proofs.is_taken.Statement.{statement}
-use Rattle.totem.proofs.is_taken.Tie as tie
+use Rattle.station.proofs.answer.is_taken.Statement.{statement}
+use Rattle.station.proofs.answer.is_taken.Tie as tie
 
 returns : tie.Need-returns
 returns c = cc

@@ -1,0 +1,47 @@
+-- A head over contents that are lent: the log, the posts and the record that they make up.
+use Prim.Native.Nat.{ℕ, _+_}
+use mathlib.Core.List.{List}
+use Rattle.record.specs.Size.{heldContents, postContents}
+use Rattle.record.specs.Layout.{heldMessagesAt, heldContentsAt, postContentsAt}
+use Rattle.record.specs.Bytes.{bytesAt}
+use Rattle.record.specs.declared.head.LogHead.{LogHead}
+use Rattle.record.specs.declared.head.PostsHead.{PostsHead}
+use Rattle.record.specs.declared.head.Head.{Head}
+use Rattle.record.specs.declared.log.Held.{Held}
+use Rattle.record.specs.declared.log.Log.{Log}
+use Rattle.record.specs.declared.posts.Posts.{Posts}
+use Rattle.record.specs.declared.Record.{Record}
+
+abbrev pub heldOn : LogHead → List ℕ → Held
+heldOn l contents = record { senders = l .senders; services = l .services; lengths = l .lengths; contents = contents }
+
+abbrev pub logOn : LogHead → List ℕ → Log
+logOn l contents =
+    record {
+      ring = l .ring;
+      count = l .count;
+      members = l .members;
+      level = l .level;
+      safe = l .safe;
+      delivered = l .delivered;
+      held = heldOn l contents;
+    }
+
+abbrev pub postsOn : PostsHead → List ℕ → Posts
+postsOn p contents = record { count = p .count; services = p .services; lengths = p .lengths; contents = contents }
+
+-- the contents of the held messages, and of the waiting posts
+abbrev pub recordOn : Head → List ℕ → List ℕ → Record
+recordOn h contents waiting = record { own = h .own; log = logOn (h .log) contents; turn = h .turn; posts = postsOn (h .posts) waiting }
+
+-- ---- the contents in a record's bytes: of the log that stands at `at`, and of the posts that stand there
+
+abbrev pub contentsIn : List ℕ → ℕ → List ℕ
+contentsIn s at = bytesAt heldContents s (at + heldMessagesAt + heldContentsAt)
+
+abbrev pub waitingIn : List ℕ → ℕ → List ℕ
+waitingIn s at = bytesAt postContents s (at + postContentsAt)
+
+-- the record with other posts
+abbrev pub withPosts : Record → Posts → Record
+withPosts r posts = record { own = r .own; log = r .log; turn = r .turn; posts = posts }

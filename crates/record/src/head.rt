@@ -1,0 +1,119 @@
+// Heads: a log, the waiting posts and a record without their contents. The contents stay where they are lent,
+// so a head is small and goes by value where the whole would be copied.
+ghost use mathlib.Core.Path.{_≡_};
+ghost use Rattle.record.specs.Head.{recordOn};
+use crate::Record;
+use crate::log::Held;
+use crate::log::Log;
+use crate::posts::Posts;
+use crate::size;
+use crate::turn::Turn;
+use frames::MessageNumber;
+use frames::RingNumber;
+
+pub struct LogHead {
+    pub ring: RingNumber,
+    pub count: u8,
+    pub members: [u16; size::MOST_MEMBERS],
+    pub level: MessageNumber,
+    pub safe: MessageNumber,
+    pub delivered: MessageNumber,
+    pub senders: [u16; size::MOST_HELD],
+    pub services: [u16; size::MOST_HELD],
+    pub lengths: [u8; size::MOST_HELD],
+}
+
+pub struct PostsHead {
+    pub count: u8,
+    pub services: [u16; size::MOST_POSTS],
+    pub lengths: [u8; size::MOST_POSTS],
+}
+
+pub struct Head {
+    pub own: u16,
+    pub log: LogHead,
+    pub turn: Turn,
+    pub posts: PostsHead,
+}
+
+// A record without its contents.
+pub fn head_of(r: Record) -> Head
+    ensures { λ h. ⌜ recordOn h (r .log .held .contents) (r .posts .contents) ≡ r ⌝ }
+{
+    let ring = r.log.ring;
+    let members = r.log.members;
+    let level = r.log.level;
+    let safe = r.log.safe;
+    let delivered = r.log.delivered;
+    let senders = r.log.held.senders;
+    let services = r.log.held.services;
+    let lengths = r.log.held.lengths;
+    let turn = r.turn;
+    let post_services = r.posts.services;
+    let post_lengths = r.posts.lengths;
+    Head {
+        own: r.own,
+        log: LogHead {
+            ring,
+            count: r.log.count,
+            members,
+            level,
+            safe,
+            delivered,
+            senders,
+            services,
+            lengths,
+        },
+        turn,
+        posts: PostsHead {
+            count: r.posts.count,
+            services: post_services,
+            lengths: post_lengths,
+        },
+    }
+}
+
+// A head and its contents.
+pub fn record_on(
+    h: Head,
+    contents: [u8; size::HELD_CONTENTS],
+    waiting: [u8; size::POST_CONTENTS],
+) -> Record
+    ensures { λ r. ⌜ r ≡ recordOn h contents waiting ⌝ }
+{
+    let ring = h.log.ring;
+    let members = h.log.members;
+    let level = h.log.level;
+    let safe = h.log.safe;
+    let delivered = h.log.delivered;
+    let senders = h.log.senders;
+    let services = h.log.services;
+    let lengths = h.log.lengths;
+    let turn = h.turn;
+    let post_services = h.posts.services;
+    let post_lengths = h.posts.lengths;
+    Record {
+        own: h.own,
+        log: Log {
+            ring,
+            count: h.log.count,
+            members,
+            level,
+            safe,
+            delivered,
+            held: Held {
+                senders,
+                services,
+                lengths,
+                contents,
+            },
+        },
+        turn,
+        posts: Posts {
+            count: h.posts.count,
+            services: post_services,
+            lengths: post_lengths,
+            contents: waiting,
+        },
+    }
+}
