@@ -161,20 +161,17 @@ head-stored h l l₁ l₂ l₃ l₄ log token services lengths room e₁ e₂ e�
 
 -- ---- the contents, and then the head
 
-pub encoded : (r : Record) (h : Head) (l l₁ l₂ l₃ : List ℕ)
-    → RecordArrays r
+pub encoded : (r : Record) (h : Head) (contents waiting l l₁ l₂ l₃ : List ℕ)
+    → length contents ≡ heldContents
+    → length waiting ≡ postContents
     → recordSize ≤ length l
-    → l₁ ≡ sets l (logAt + heldMessagesAt + heldContentsAt) (r .log .held .contents)
-    → l₂ ≡ sets l₁ (postsAt + postContentsAt) (r .posts .contents)
-    → recordOn h (r .log .held .contents) (r .posts .contents) ≡ r
+    → l₁ ≡ sets l (logAt + heldMessagesAt + heldContentsAt) contents
+    → l₂ ≡ sets l₁ (postsAt + postContentsAt) waiting
+    → recordOn h contents waiting ≡ r
     → l₃ ≡ recordBytes (recordOn h (contentsIn l₂ logAt) (waitingIn l₂ postsAt)) ++ drop recordSize l₂
     → l₃ ≡ recordBytes r ++ drop recordSize l
-encoded r h l l₁ l₂ l₃ a room e₁ e₂ e e₃ =
-    let contents = r .log .held .contents in
-    let waiting = r .posts .contents in
+encoded r h contents waiting l l₁ l₂ l₃ size size₂ room e₁ e₂ e e₃ =
     let long₁ : length l₁ ≡ length l = rw e₁ (length-sets l (logAt + heldMessagesAt + heldContentsAt) contents) in
-    let size : length contents ≡ heldContents = a .log .held .contents in
-    let size₂ : length waiting ≡ postContents = a .posts .contents in
     let there : contentsIn l₂ logAt ≡ contents =
     rw e₂ (part-before heldContents (logAt + heldMessagesAt + heldContentsAt) (postsAt + postContentsAt) waiting l₁ (omega arith)
     ∙ rw e₁ (rw size at (part-written (logAt + heldMessagesAt + heldContentsAt) contents l (omega (arith, size))))) in

@@ -5,12 +5,14 @@ ghost use mathlib.Core.List.{_++_};
 ghost use Prim.Native.Nat.{_<_, _≤_};
 ghost use lib.ListN.{length, drop};
 ghost use Rattle.frames.specs.Layout.{mostContent};
-ghost use Rattle.record.specs.Size.{mostPosts};
+ghost use Rattle.record.specs.Size.{mostMembers, mostPosts};
+ghost use Rattle.record.specs.Fresh.{fresh};
 ghost use Rattle.record.specs.Posts.{queued};
 ghost use Rattle.record.specs.Layout.{recordSize, logAt, postsAt};
 ghost use Rattle.record.specs.Bytes.{recordOf, recordBytes};
 ghost use Rattle.record.specs.Head.{recordOn, contentsIn, waitingIn, withPosts};
 use crate::Record;
+use crate::fresh;
 use crate::head;
 use crate::head::Head;
 use crate::layout;
@@ -20,6 +22,7 @@ use crate::posts_bytes;
 use crate::size;
 use crate::turn::Turn;
 use crate::turn_bytes;
+use frames::RingNumber;
 
 // The head of the record in the first RECORD_SIZE bytes. Ruled out: two marks swapped; a field one byte off.
 pub fn get_head(s: &[u8]) -> Head
@@ -72,6 +75,19 @@ pub fn encode(r: Record, out: &mut [u8])
     words::put_bytes(out, layout::CONTENTS_AT, &contents);
     words::put_bytes(out, layout::WAITING_AT, &waiting);
     put_head(out, head::head_of(r));
+}
+
+// A fresh record, to the first RECORD_SIZE bytes. Ruled out: a content that stood there before; a byte past
+// them changed.
+pub fn put_fresh(out: &mut [u8], ids: &[u16], own: u16, ring: RingNumber)
+    requires { ⌜ (recordSize ≤ length (now out)) × (length (now ids) ≤ mostMembers) ⌝ }
+    ensures { λ _. ⌜
+        now (out .exit)
+        ≡ recordBytes (fresh (now (ids .entry)) own (ring .0)) ++ drop recordSize (now (out .entry)) ⌝ }
+{
+    words::put_bytes(out, layout::CONTENTS_AT, &[0u8; size::HELD_CONTENTS]);
+    words::put_bytes(out, layout::WAITING_AT, &[0u8; size::POST_CONTENTS]);
+    put_head(out, fresh::fresh_head(ids, own, ring));
 }
 
 // What a station keeps from one visit to the next, in the record's bytes.

@@ -1,29 +1,20 @@
 // A fresh record.
 ghost use mathlib.Core.Path.{_≡_};
 ghost use Prim.Native.Nat.{_≤_};
-ghost use lib.ListN.{length};
-ghost use Rattle.record.specs.Size.{mostMembers};
-ghost use Rattle.record.specs.Fresh.{freshHeld, membersPlaced, freshLog, freshTurn, freshPosts, fresh};
+ghost use lib.ListN.{length, replicate};
+ghost use Rattle.record.specs.Size.{mostMembers, heldContents, postContents};
+ghost use Rattle.record.specs.Head.{logOn, postsOn, recordOn};
+ghost use Rattle.record.specs.Fresh.{membersPlaced, freshLog, freshTurn, freshPosts, fresh};
 use crate::Record;
-use crate::log::Held;
-use crate::log::Log;
-use crate::posts::Posts;
+use crate::head;
+use crate::head::Head;
+use crate::head::LogHead;
+use crate::head::PostsHead;
 use crate::size;
 use crate::turn::Turn;
 use frames::MessageNumber;
 use frames::RingNumber;
 use frames::TokenNumber;
-
-fn fresh_held() -> Held
-    ensures { λ r. ⌜ r ≡ freshHeld ⌝ }
-{
-    Held {
-        senders: [0u16; size::MOST_HELD],
-        services: [0u16; size::MOST_HELD],
-        lengths: [0u8; size::MOST_HELD],
-        contents: [0u8; size::HELD_CONTENTS],
-    }
-}
 
 fn places_of(ids: &[u16]) -> [u16; size::MOST_MEMBERS]
     requires { ⌜ length (now ids) ≤ mostMembers ⌝ }
@@ -38,18 +29,20 @@ fn places_of(ids: &[u16]) -> [u16; size::MOST_MEMBERS]
     members
 }
 
-fn fresh_log(ids: &[u16], ring: RingNumber) -> Log
+fn fresh_log(ids: &[u16], ring: RingNumber) -> LogHead
     requires { ⌜ length (now ids) ≤ mostMembers ⌝ }
-    ensures { λ r. ⌜ r ≡ freshLog (now (ids .entry)) (ring .0) ⌝ }
+    ensures { λ r. ⌜ logOn r (replicate heldContents 0) ≡ freshLog (now (ids .entry)) (ring .0) ⌝ }
 {
-    Log {
+    LogHead {
         ring,
         count: ids.len() as u8,
         members: places_of(ids),
         level: MessageNumber(0),
         safe: MessageNumber(0),
         delivered: MessageNumber(0),
-        held: fresh_held(),
+        senders: [0u16; size::MOST_HELD],
+        services: [0u16; size::MOST_HELD],
+        lengths: [0u8; size::MOST_HELD],
     }
 }
 
@@ -67,27 +60,39 @@ fn fresh_turn() -> Turn
     }
 }
 
-fn fresh_posts() -> Posts
-    ensures { λ r. ⌜ r ≡ freshPosts ⌝ }
+fn fresh_posts() -> PostsHead
+    ensures { λ r. ⌜ postsOn r (replicate postContents 0) ≡ freshPosts ⌝ }
 {
-    Posts {
+    PostsHead {
         count: 0,
         services: [0u16; size::MOST_POSTS],
         lengths: [0u8; size::MOST_POSTS],
-        contents: [0u8; size::POST_CONTENTS],
     }
 }
 
-// All marks and counts 0, nothing held or waiting, and no leave to resend. Ruled out: the members in
-// another order; a byte left over past them.
-pub fn fresh_record(ids: &[u16], own: u16, ring: RingNumber) -> Record
+// All marks and counts 0, nothing held or waiting, and no leave to resend; the contents are zero. Ruled out:
+// the members in another order; a byte left over past them.
+pub fn fresh_head(ids: &[u16], own: u16, ring: RingNumber) -> Head
     requires { ⌜ length (now ids) ≤ mostMembers ⌝ }
-    ensures { λ r. ⌜ r ≡ fresh (now (ids .entry)) own (ring .0) ⌝ }
+    ensures { λ r. ⌜
+        recordOn r (replicate heldContents 0) (replicate postContents 0) ≡ fresh (now (ids .entry)) own (ring .0) ⌝ }
 {
-    Record {
+    Head {
         own,
         log: fresh_log(ids, ring),
         turn: fresh_turn(),
         posts: fresh_posts(),
     }
+}
+
+// The same by value, the contents with it.
+pub fn fresh_record(ids: &[u16], own: u16, ring: RingNumber) -> Record
+    requires { ⌜ length (now ids) ≤ mostMembers ⌝ }
+    ensures { λ r. ⌜ r ≡ fresh (now (ids .entry)) own (ring .0) ⌝ }
+{
+    head::record_on(
+        fresh_head(ids, own, ring),
+        [0u8; size::HELD_CONTENTS],
+        [0u8; size::POST_CONTENTS],
+    )
 }

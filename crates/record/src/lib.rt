@@ -21,6 +21,7 @@ mod whole;
 pub use bytes::decode;
 pub use bytes::encode;
 pub use bytes::post_count;
+pub use bytes::put_fresh;
 pub use bytes::put_post;
 pub use bytes::turn_in;
 pub use fresh::fresh_record;

@@ -1,7 +1,7 @@
--- Founding, question by question, and the ring's first token.
+-- Founding: refused by 1 or 3 to 6, or taken; and the ring's first token.
 use Prim.Native.Nat.{ℕ, _≤_}
-use mathlib.Core.Path.{_≡_, _∙_}
-use mathlib.Core.Bool.{Bool, true, false, and-false}
+use mathlib.Core.Path.{_≡_, refl, sym, _∙_}
+use mathlib.Core.Bool.{Bool, true, false, false≢true, and-false, cond}
 use mathlib.Core.List.{List, [], _∷_}
 use borrow.Author.Tests.{le-leb, leb-true}
 use native.Mathlib.Omega.{arith}
@@ -20,40 +20,53 @@ use Rattle.record.specs.Members.{representative, membersCounted, idsFollow, own
 use Rattle.record.specs.Fresh.{fresh}
 use Rattle.record.specs.declared.Record.{Record}
 use Rattle.record.proofs.MemberLaws.{foundable-facts}
-use Rattle.station.specs.Reply.{refused, followedBy}
+use Rattle.station.specs.Answer.{isTaken}
+use Rattle.station.specs.Reply.{Reply, asks, followedBy}
 use Rattle.station.specs.Found.{firstToken, founded}
+use Rattle.station.specs.Door.{foundAnswer, foundBytes}
 use Rattle.station.specs.declared.refusal.Refusal.the-variants.{NoRoom, MemberCount, BadIds, NotAmong, BadRing}
-use Rattle.station.specs.declared.answer.Answer.the-variants.{Founded}
+use Rattle.station.specs.declared.answer.Answer.{Answer}
+use Rattle.station.specs.declared.answer.Answer.the-variants.{Refused, Founded}
+
+-- ---- five questions, whatever they are
+
+abbrev answers : Bool → Bool → Bool → Bool → Bool → Answer
+answers a b c d e = cond a (cond b (cond c (cond d (cond e Founded (Refused BadRing)) (Refused NotAmong)) (Refused BadIds)) (Refused MemberCount)) (Refused NoRoom)
+
+abbrev asked : Record → Bool → Bool → Bool → Bool → Bool → Reply → Reply
+asked r a b c d e rest = asks r a NoRoom (asks r b MemberCount (asks r c BadIds (asks r d NotAmong (asks r e BadRing rest))))
+
+shut : (r : Record) (rest : Reply) (a b c d e : Bool) → isTaken (answers a b c d e) ≡ false → asked r a b c d e rest ≡ record { answer = answers a b c d e; rec = r; frames = []; deliveries = [] }
+shut r rest true true true true true n = absurd (false≢true (sym n))
+shut r rest true true true true false n = refl
+shut r rest true true true false e n = refl
+shut r rest true true false d e n = refl
+shut r rest true false c d e n = refl
+shut r rest false b c d e n = refl
+
+all-yes : (a b c d e : Bool) → isTaken (answers a b c d e) ≡ true → (a ≡ true) × (b ≡ true) × (c ≡ true) × (d ≡ true) × (e ≡ true)
+all-yes true true true true true t = (refl, refl, refl, refl, refl)
+all-yes true true true true false t = absurd (false≢true t)
+all-yes true true true false e t = absurd (false≢true t)
+all-yes true true false d e t = absurd (false≢true t)
+all-yes true false c d e t = absurd (false≢true t)
+all-yes false b c d e t = absurd (false≢true t)
 
 module _ (r : Record) (room : Bool) (ids : List ℕ) (own ring : ℕ) where
-  pub founded-roomless : room ≡ false → founded r room ids own ring ≡ refused r NoRoom
+  abbrev taken : Reply
+  taken = record { answer = Founded; rec = fresh ids own ring; frames = tokenBytes (firstToken ids ring); deliveries = [] }
+
+  pub founded-refused : isTaken (foundAnswer room ids own ring) ≡ false
+      → founded r room ids own ring ≡ record { answer = foundAnswer room ids own ring; rec = r; frames = foundBytes room ids own ring; deliveries = [] }
   unfolding founded
-  founded-roomless e = rw e
+  founded-refused n = rw n (shut r taken room (membersCounted ids) (idsFollow ids) (ownAmong ids own) (ringInRange ring) n)
 
-  module _ (enough : room ≡ true) where
-    pub founded-uncounted : membersCounted ids ≡ false → founded r room ids own ring ≡ refused r MemberCount
+  module _ (t : isTaken (foundAnswer room ids own ring) ≡ true) where
+    pub founded-all : (membersCounted ids ≡ true) × (founded r room ids own ring ≡ record { answer = foundAnswer room ids own ring; rec = fresh ids own ring; frames = foundBytes room ids own ring; deliveries = [] })
     unfolding founded
-    founded-uncounted e = rw (enough, e)
-
-    module _ (counted : membersCounted ids ≡ true) where
-      pub founded-bad-ids : idsFollow ids ≡ false → founded r room ids own ring ≡ refused r BadIds
-      unfolding founded
-      founded-bad-ids e = rw (enough, counted, e)
-
-      module _ (follow : idsFollow ids ≡ true) where
-        pub founded-not-among : ownAmong ids own ≡ false → founded r room ids own ring ≡ refused r NotAmong
-        unfolding founded
-        founded-not-among e = rw (enough, counted, follow, e)
-
-        module _ (among : ownAmong ids own ≡ true) where
-          pub founded-bad-ring : ringInRange ring ≡ false → founded r room ids own ring ≡ refused r BadRing
-          unfolding founded
-          founded-bad-ring e = rw (enough, counted, follow, among, e)
-
-          module _ (ranged : ringInRange ring ≡ true) where
-            pub founded-taken : founded r room ids own ring ≡ record { answer = Founded; rec = fresh ids own ring; frames = tokenBytes (firstToken ids ring); deliveries = [] }
-            unfolding founded
-            founded-taken = rw (enough, counted, follow, among, ranged)
+    founded-all =
+        let all = all-yes room (membersCounted ids) (idsFollow ids) (ownAmong ids own) (ringInRange ring) t in
+        (all .1, rw (all .0, all .1, all .2, all .3, all .4) refl)
 
 pub foundable-when : (ids : List ℕ) (own ring : ℕ) → membersCounted ids ≡ true → idsFollow ids ≡ true → ownAmong ids own ≡ true → ringInRange ring ≡ true → foundable ids own ring ≡ true
 unfolding foundable

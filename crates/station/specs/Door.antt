@@ -1,18 +1,38 @@
--- Posting, arrival and resending of a record that is known to be whole, or known not to be: what is left of the questions at the door.
--- Nothing new is said here: each answer is that of Post.antt, Arrive.antt or Resend.antt there.
+-- The answers alone: of founding, and of posting, arrival and resending where it is known whether the record is whole. Nothing new is
+-- said here: each answer is that of Found.antt, Post.antt, Arrive.antt or Resend.antt there.
 use Prim.Native.Nat.{ℕ}
 use mathlib.Core.Bool.{Bool, _&&_, cond}
 use mathlib.Core.List.{List, []}
 use lib.ListN.{length}
 use lib.Dec.{leb, ltb}
 use Rattle.frames.specs.Layout.{mostService, mostContent}
+use Rattle.frames.specs.Token.{tokenBytes}
 use Rattle.record.specs.Size.{mostPosts}
+use Rattle.record.specs.Members.{membersCounted, idsFollow, ownAmong, ringInRange}
 use Rattle.record.specs.Turn.{hasLeave, remembered}
 use Rattle.record.specs.declared.turn.Turn.{Turn}
+use Rattle.station.specs.Answer.{isTaken}
 use Rattle.station.specs.Reply.{mostFrames}
-use Rattle.station.specs.declared.refusal.Refusal.the-variants.{NoRoom, NotWhole, LongContent, OtherService, PostsFull, NoLeave}
+use Rattle.station.specs.Found.{firstToken}
+use Rattle.station.specs.declared.refusal.Refusal.the-variants.{NoRoom, NotWhole, MemberCount, BadIds, NotAmong, BadRing, LongContent, OtherService, PostsFull, NoLeave}
 use Rattle.station.specs.declared.answer.Answer.{Answer}
-use Rattle.station.specs.declared.answer.Answer.the-variants.{Refused, Posted, Resent}
+use Rattle.station.specs.declared.answer.Answer.the-variants.{Refused, Founded, Posted, Resent}
+
+-- founding: 1, then 3 to 6
+abbrev pub foundAnswer : Bool → List ℕ → ℕ → ℕ → Answer
+foundAnswer room ids own ring =
+    cond room
+    (cond (membersCounted ids)
+    (cond (idsFollow ids)
+    (cond (ownAmong ids own)
+    (cond (ringInRange ring) Founded (Refused BadRing))
+    (Refused NotAmong))
+    (Refused BadIds))
+    (Refused MemberCount))
+    (Refused NoRoom)
+
+abbrev pub foundBytes : Bool → List ℕ → ℕ → ℕ → List ℕ
+foundBytes room ids own ring = cond (isTaken (foundAnswer room ids own ring)) (tokenBytes (firstToken ids ring)) []
 
 -- 1 and 2, where the record isn't whole: is there room at least?
 abbrev pub notWholeAnswer : Bool → Answer

@@ -3,13 +3,15 @@ ghost use mathlib.Core.Path.{_≡_};
 ghost use mathlib.Core.Bool.{true};
 ghost use Prim.Native.Nat.{_≤_};
 ghost use lib.ListN.{length};
+ghost use lib.Dec.{leb};
 ghost use Rattle.frames.specs.Layout.{shortestToken};
 ghost use Rattle.record.specs.Members.{foundable};
 ghost use Rattle.frames.specs.Token.{tokenBytes};
 ghost use Rattle.station.specs.Reply.{doneOf, followedBy};
+ghost use Rattle.station.specs.Door.{foundAnswer, foundBytes};
 ghost use Rattle.station.specs.Found.{firstToken, foundedOn};
+use crate::answer;
 use crate::answer::Answer;
-use crate::done;
 use crate::done::Done;
 use crate::refusal::Refusal;
 use frames::Blocker;
@@ -50,6 +52,34 @@ fn put_first_token(ids: &[u16], own: u16, ring: RingNumber, token: &mut [u8])
     frames::write_token(t, token);
 }
 
+// 1 and 3 to 6, and the ring's first token where all are answered 'yes'. Ruled out: a token written with a
+// refusal; 5 where the ids don't follow.
+pub fn found_answer(ids: &[u16], own: u16, ring: RingNumber, token: &mut [u8]) -> Answer
+    ensures { λ r. ⌜
+        (r ≡ foundAnswer (leb shortestToken (length (now (token .entry)))) (now (ids .entry)) own (ring .0))
+        × (now (token .exit) ≡ followedBy
+        (foundBytes (leb shortestToken (length (now (token .entry)))) (now (ids .entry)) own (ring .0))
+        (now (token .entry))) ⌝ }
+{
+    if token.len() < frames::SHORTEST_TOKEN {
+        return Answer::Refused(Refusal::NoRoom);
+    }
+    if !record::members_counted(ids) {
+        return Answer::Refused(Refusal::MemberCount);
+    }
+    if !record::ids_follow(ids) {
+        return Answer::Refused(Refusal::BadIds);
+    }
+    if !record::is_member(ids, own) {
+        return Answer::Refused(Refusal::NotAmong);
+    }
+    if !frames::is_number(ring.0) {
+        return Answer::Refused(Refusal::BadRing);
+    }
+    put_first_token(ids, own, ring, token);
+    Answer::Founded
+}
+
 // Founds a station of a ring and hands out the ring's first token. Ruled out: the members sorted; a
 // token addressed to the own id.
 pub fn found_step(rec: Record, ids: &[u16], own: u16, ring: RingNumber, token: &mut [u8]) -> Done
@@ -59,24 +89,12 @@ pub fn found_step(rec: Record, ids: &[u16], own: u16, ring: RingNumber, token: &
         ((foundedOn rec (length (now (token .entry))) (now (ids .entry)) own (ring .0)) .frames)
         (now (token .entry))) ⌝ }
 {
-    if token.len() < frames::SHORTEST_TOKEN {
-        return done::refuse(rec, Refusal::NoRoom);
+    let answer = found_answer(ids, own, ring, token);
+    if !answer::is_taken(answer) {
+        return Done { answer, rec };
     }
-    if !record::members_counted(ids) {
-        return done::refuse(rec, Refusal::MemberCount);
-    }
-    if !record::ids_follow(ids) {
-        return done::refuse(rec, Refusal::BadIds);
-    }
-    if !record::is_member(ids, own) {
-        return done::refuse(rec, Refusal::NotAmong);
-    }
-    if !frames::is_number(ring.0) {
-        return done::refuse(rec, Refusal::BadRing);
-    }
-    put_first_token(ids, own, ring, token);
     Done {
-        answer: Answer::Founded,
+        answer,
         rec: record::fresh_record(ids, own, ring),
     }
 }

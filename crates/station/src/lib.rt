@@ -36,6 +36,7 @@ pub use calls::resend;
 pub use done::Done;
 pub use done::answer_of;
 pub use done::rec_of;
+pub use founding::found_answer;
 pub use founding::found_step;
 pub use posting::post_answer;
 pub use posting::post_step;

@@ -8,6 +8,7 @@ use lib.ListN.{length, drop}
 use lib.Dec.{leb, eqb}
 use Rattle.words.specs.Run.{words}
 use Rattle.frames.specs.Layout.{shortestToken}
+use Rattle.record.specs.Size.{mostMembers}
 use Rattle.record.specs.Layout.{recordSize}
 use Rattle.record.specs.Bytes.{recordBytes}
 use Rattle.record.specs.Lent.{noRecord, lent}
@@ -24,6 +25,10 @@ use Rattle.station.specs.declared.answer.Answer.the-variants.{Founded}
 -- the ids in a list of members; an odd number of bytes is no list
 unfoldable pub idsIn : List ℕ → List ℕ
 idsIn s = cond (eqb (length s % 2) 0) (words 2 (length s / 2) s) []
+
+-- how many ids are read; a list that has too many of them is refused whatever they are
+abbrev pub listedCount : List ℕ → ℕ
+listedCount s = cond (eqb (length s % 2) 0 && leb (length s / 2) mostMembers) (length s / 2) 0
 
 -- the station's bytes after a call: those of its record, followed by what stood after them; a refusal leaves every byte as it was
 abbrev pub stationAfter : Done → List ℕ → List ℕ

@@ -10,8 +10,7 @@ ghost use Rattle.record.specs.Layout.{recordSize};
 ghost use Rattle.record.specs.Lent.{noRecord};
 ghost use Rattle.station.specs.Answer.{outcomeOf, isTaken};
 ghost use Rattle.station.specs.Reply.{doneOf, followedBy};
-ghost use Rattle.station.specs.Found.{foundedOn};
-ghost use Rattle.totem.specs.Over.{idsIn, stationAfter, foundOver, postOver, arriveOver, resendOver};
+ghost use Rattle.totem.specs.Over.{idsIn, listedCount, stationAfter, foundOver, postOver, arriveOver, resendOver};
 use frames::RingNumber;
 use station::Answer;
 use station::Done;
@@ -28,36 +27,19 @@ fn put_back(bytes: &mut [u8], done: Done)
     }
 }
 
-// Founding by bytes that are no list of members (an odd number, or too many ids): refused as an empty
-// list is.
-fn found_by_none(own: u16, ring: RingNumber, token: &mut [u8]) -> Done
-    ensures { λ r. ⌜
-        (r ≡ doneOf (foundedOn noRecord (length (now (token .entry))) [] own (ring .0)))
-        × (now (token .exit) ≡ followedBy
-        (foundedOn noRecord (length (now (token .entry))) [] own (ring .0) .frames)
-        (now (token .entry))) ⌝ }
+// How many ids a list of members has; bytes that are no list (an odd number, or too many ids) have none, and
+// founding by none is refused as founding by them.
+fn id_count(members: &[u8]) -> usize
+    ensures { λ r. ⌜ r ≡ listedCount (now (members .entry)) ⌝ }
 {
-    let ids = [0u16; 1];
-    station::found_step(record::no_record(), &ids[0..0], own, ring, token)
-}
-
-fn found_by(members: &[u8], own: u16, ring: RingNumber, token: &mut [u8]) -> Done
-    ensures { λ r. ⌜
-        (r ≡ doneOf (foundedOn noRecord (length (now (token .entry))) (idsIn (now (members .entry))) own (ring .0)))
-        × (now (token .exit) ≡ followedBy
-        (foundedOn noRecord (length (now (token .entry))) (idsIn (now (members .entry))) own (ring .0) .frames)
-        (now (token .entry))) ⌝ }
-{
-    let mut ids = [0u16; record::MOST_MEMBERS];
     let n = members.len() / 2;
     if members.len() != 2 * n {
-        return found_by_none(own, ring, token);
+        return 0;
     }
     if record::MOST_MEMBERS < n {
-        return found_by_none(own, ring, token);
+        return 0;
     }
-    words::get_u16s(members, 0, n, &mut ids);
-    station::found_step(record::no_record(), &ids[0..n], own, ring, token)
+    n
 }
 
 // Founding. Ruled out: a record written with a refusal; an odd list read as a shorter one.
@@ -82,9 +64,15 @@ pub extern "C" fn totem_found(
     if bytes.len() < record::RECORD_SIZE {
         return station::outcome_of(Answer::Refused(Refusal::NoRoom));
     }
-    let done = found_by(members, own, RingNumber(ring), token);
-    put_back(bytes, done);
-    station::outcome_of(station::answer_of(done))
+    let mut ids = [0u16; record::MOST_MEMBERS];
+    let n = id_count(members);
+    words::get_u16s(members, 0, n, &mut ids);
+    let answer = station::found_answer(&ids[0..n], own, RingNumber(ring), token);
+    if !station::is_taken(answer) {
+        return station::outcome_of(answer);
+    }
+    record::put_fresh(bytes, &ids[0..n], own, RingNumber(ring));
+    station::outcome_of(answer)
 }
 
 // Posting. Ruled out: 9 with an empty queue; a record of another length taken.
