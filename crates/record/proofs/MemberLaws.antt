@@ -1,7 +1,7 @@
 -- Members, founding questions, and the token that may be resent.
 use Prim.Native.Nat.{ℕ, _-_, _≤_}
 use mathlib.Core.Path.{_≡_, refl}
-use mathlib.Core.Bool.{Bool, true, false, false≢true, and-false, _&&_, _||_}
+use mathlib.Core.Bool.{Bool, true, false, false≢true, and-false, _&&_}
 use mathlib.Core.List.{List, [], _∷_}
 use borrow.Author.Tests.{leb-true, eqb-true, eq-eqb, ne-eqb}
 use native.Mathlib.Nat.{sub-zero}
@@ -67,14 +67,6 @@ pub own-most : (ids : List ℕ) (own : ℕ) → FoundableFacts ids own → own �
 own-most ids own f =
     let e : leb 1 own && leb own mostId ≡ true = member-passes (λ x. leb 1 x && leb x mostId) ids own (f .among) (f .known) in
     leb-true own mostId (part e (λ (g : leb own mostId ≡ false). simp (g, and-false)))
-
--- ---- a held message's sender
-
-pub sender-tested : (members : List ℕ) (x : ℕ) (member good : Bool)
-    → member ≡ isMember members x
-    → eqb x 0 || member ≡ good
-    → eqb x 0 || isMember members x ≡ good
-sender-tested members x member good e f = rw e at f
 
 -- ---- a token that may be resent
 

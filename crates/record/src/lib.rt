@@ -32,8 +32,6 @@ pub use held::place_message;
 pub use held::store;
 pub use layout::RECORD_SIZE;
 pub use lent::is_whole_in;
-pub use lent::no_record;
-pub use lent::record_in;
 pub use log::Held;
 pub use log::Log;
 pub use members::ids_follow;

@@ -4,13 +4,11 @@
 ghost use mathlib.Core.Path.{_≡_};
 ghost use mathlib.Core.Bool.{true};
 ghost use Prim.Native.Nat.{_≤_};
-ghost use mathlib.Core.List.{[]};
 ghost use lib.ListN.{length};
 ghost use Rattle.record.specs.Layout.{recordSize};
-ghost use Rattle.record.specs.Lent.{noRecord};
 ghost use Rattle.station.specs.Answer.{outcomeOf, isTaken};
 ghost use Rattle.station.specs.Reply.{doneOf, followedBy};
-ghost use Rattle.totem.specs.Over.{idsIn, listedCount, stationAfter, foundOver, postOver, arriveOver, resendOver};
+ghost use Rattle.totem.specs.Over.{listedCount, stationAfter, foundOver, postOver, arriveOver, resendOver};
 use frames::RingNumber;
 use station::Answer;
 use station::Done;
