@@ -12,8 +12,8 @@
  * - C converts a number to its parameter's type before the call sees it: 65536 as a service arrives as 0.
  * - A refusal alters no lent byte, and its counts are 0. Bytes past an output count are never altered.
  * - Buffers that overlap are outside what is proved: lend separate ones.
- * - Arrival needs up to 32 KB of stack, every other call up to 4 KB; what was measured (host/test/stack.c)
- *   is below 27 KB and 2 KB.
+ * - Arrival needs up to 8 KB of stack, every other call up to 4 KB; what was measured (host/test/stack.c)
+ *   is below 5 KB and 3 KB.
  * - The library keeps no state of its own and has no globals; all it knows is in the lent record. So
  *   different stations may be used from different threads. One station takes one call at a time.
  */

@@ -15,7 +15,7 @@
 enum { STACK_ROOM = 256 * 1024, PAINT = 0xA5 };
 
 /* what include/totem.h says */
-enum { MOST_FOR_ARRIVAL = 32 * 1024, MOST_FOR_OTHERS = 4 * 1024 };
+enum { MOST_FOR_ARRIVAL = 8 * 1024, MOST_FOR_OTHERS = 4 * 1024 };
 
 static _Alignas(4096) uint8_t stack[STACK_ROOM];
 static uint8_t record[TOTEM_STATION_LEN], frames[TOTEM_FRAMES_LEN], deliveries[TOTEM_DELIVERIES_LEN];

@@ -34,15 +34,15 @@ module _ (follows : Bool) (frame out : List ℕ) where
   unfolding written
   write-roomless n ok size less = let short = lt-leb n (length out) less in (rw (ok, size, short), rw (ok, size, short))
 
-  pub write-taken : (n : ℕ) (out′ : List ℕ)
-      → follows ≡ true
-      → Stored out 0 frame n out′
-      → n ≤ length out
-      → (outcomeOf (Size n) ≡ (written follows frame out) .outcome) × (out′ ≡ (written follows frame out) .out)
+  pub write-counted : (n : ℕ) → follows ≡ true → length frame ≡ n → n ≤ length out → outcomeOf (Size n) ≡ (written follows frame out) .outcome
+  unfolding written
+  write-counted n ok size room = rw (ok, size, le-leb n (length out) room)
+
+  write-taken : (n : ℕ) (out′ : List ℕ) → follows ≡ true → Stored out 0 frame n out′ → n ≤ length out → out′ ≡ (written follows frame out) .out
   unfolding written
   write-taken n out′ ok stored room =
       let fits = le-leb n (length out) room in
-      (rw (ok, stored .size, fits), rw (ok, stored .size, fits) (stored .is ∙ front-stored n frame out (stored .size) room))
+      rw (ok, stored .size, fits) (stored .is ∙ front-stored n frame out (stored .size) room)
 
 -- the outcome fixes the answer
 pub outcome-fixes : (a b : Written) → outcomeOf a ≡ outcomeOf b → a ≡ b
@@ -58,24 +58,23 @@ pub message-taken : (m : Message) (content out l₁ l₂ : List ℕ)
     → messageSize (length content) ≤ length out
     → l₁ ≡ sets out 0 (messageFixed m (messageSize (length content)))
     → l₂ ≡ sets l₁ contentAt content
-    → (outcomeOf (Size (messageSize (length content))) ≡ (messageWritten m content out) .outcome) × (l₂ ≡ (messageWritten m content out) .out)
+    → l₂ ≡ (messageWritten m content out) .out
 message-taken m content out l₁ l₂ ok room e₁ e₂ =
     let size = messageSize (length content) in
     let w₁ = stored-next contentAt (messageFixed m size) l₁ (stored-none out 0) (message-fixed-length m size) e₁ in
     let w₂ = stored-next (length content) content l₂ w₁ refl e₂ in
     write-taken (messageFollows m content) (messageBytes m content) out size l₂ ok w₂ room
 
-pub token-taken : (t : Token) (size : ℕ) (out l₁ l₂ : List ℕ)
+pub token-taken : (t : Token) (out l₁ l₂ : List ℕ)
     → tokenFollows t ≡ true
-    → size ≡ tokenSize (t .count)
-    → size ≤ length out
+    → tokenSize (t .count) ≤ length out
     → t .count ≤ length (t .requests)
     → l₁ ≡ sets out 0 (tokenFixed t)
     → l₂ ≡ sets l₁ requestsAt (wordsBytes 4 (take (t .count) (t .requests)))
-    → (outcomeOf (Size size) ≡ (tokenWritten t out) .outcome) × (l₂ ≡ (tokenWritten t out) .out)
-token-taken t size out l₁ l₂ ok sized room few e₁ e₂ =
+    → l₂ ≡ (tokenWritten t out) .out
+token-taken t out l₁ l₂ ok room few e₁ e₂ =
     let requests = take (t .count) (t .requests) in
     let long : length (wordsBytes 4 requests) ≡ 4 * t .count = rw (length-words-bytes, length-take-le (t .count) (t .requests) few) in
     let w₁ = stored-next requestsAt (tokenFixed t) l₁ (stored-none out 0) (token-fixed-length t) e₁ in
     let w₂ = stored-next (4 * t .count) (wordsBytes 4 requests) l₂ w₁ long e₂ in
-    write-taken (tokenFollows t) (tokenBytes t) out size l₂ ok (rw sized w₂) room
+    write-taken (tokenFollows t) (tokenBytes t) out (tokenSize (t .count)) l₂ ok w₂ room

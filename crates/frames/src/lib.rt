@@ -39,5 +39,7 @@ pub use token::Blocker;
 pub use token::Token;
 pub use token::token_follows;
 pub use writer::Written;
+pub use writer::put_message;
+pub use writer::put_token;
 pub use writer::write_message;
 pub use writer::write_token;

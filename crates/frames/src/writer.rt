@@ -1,11 +1,12 @@
 // The writers.
 ghost use mathlib.Core.Path.{_≡_};
+ghost use mathlib.Core.Bool.{true};
 ghost use Prim.Native.Nat.{_≤_};
 ghost use lib.ListN.{length};
 ghost use lib.Seq.{sets};
-ghost use Rattle.frames.specs.Layout.{mostFramed, contentAt, requestsAt, mostRequests};
-ghost use Rattle.frames.specs.Message.{messageFixed};
-ghost use Rattle.frames.specs.Token.{tokenFixed};
+ghost use Rattle.frames.specs.Layout.{mostFramed, contentAt, messageSize, requestsAt, tokenSize, mostRequests};
+ghost use Rattle.frames.specs.Message.{messageFollows, messageFixed};
+ghost use Rattle.frames.specs.Token.{tokenFollows, tokenFixed};
 ghost use Rattle.frames.specs.Write.{outcomeOf, messageWritten, tokenWritten};
 use crate::header;
 use crate::layout;
@@ -33,8 +34,18 @@ fn put_message_fixed(out: &mut [u8], m: Message, size: usize)
     words::put_u16(out, layout::SERVICE_AT, m.service);
 }
 
-// Writes a message frame to the front of `out`. Ruled out: a byte past the frame changed; a buffer
-// one byte short taken.
+// A message that follows the layout, where there is room: nothing is asked again. Ruled out: a byte past the
+// frame changed.
+pub fn put_message(m: Message, content: &[u8], out: &mut [u8])
+    requires { ⌜ (messageFollows m (now content) ≡ true) × (messageSize (length (now content)) ≤ length (now out)) ⌝ }
+    ensures { λ _. ⌜ now (out .exit) ≡ (messageWritten m (now (content .entry)) (now (out .entry))) .out ⌝ }
+{
+    put_message_fixed(out, m, layout::CONTENT_AT + content.len());
+    words::put_bytes(out, layout::CONTENT_AT, content);
+}
+
+// Writes a message frame to the front of `out`. Ruled out: a malformed one written; a buffer one byte short
+// taken.
 pub fn write_message(m: Message, content: &[u8], out: &mut [u8]) -> Written
     ensures { λ r. ⌜ outcomeOf r ≡ (messageWritten m (now (content .entry)) (now (out .entry))) .outcome ⌝ }
     ensures { λ _. ⌜ now (out .exit) ≡ (messageWritten m (now (content .entry)) (now (out .entry))) .out ⌝ }
@@ -46,8 +57,7 @@ pub fn write_message(m: Message, content: &[u8], out: &mut [u8]) -> Written
     if out.len() < size {
         return Written::Refused(Refusal::NoRoom);
     }
-    put_message_fixed(out, m, size);
-    words::put_bytes(out, layout::CONTENT_AT, content);
+    put_message(m, content, out);
     Written::Size(size)
 }
 
@@ -72,13 +82,23 @@ fn put_token_fixed(out: &mut [u8], t: Token)
     words::put_u16(out, layout::COUNT_AT, t.count);
 }
 
-// Writes a token frame to the front of `out`. Ruled out: requests left out; a refusal that has
-// written the header already.
+// A token that follows the layout, where there is room: nothing is asked again. Ruled out: requests left out.
+pub fn put_token(t: Token, out: &mut [u8])
+    requires { ⌜ (tokenFollows t ≡ true) × (tokenSize (t .count) ≤ length (now out)) ⌝ }
+    ensures { λ _. ⌜ now (out .exit) ≡ (tokenWritten t (now (out .entry))) .out ⌝ }
+{
+    let requests = t.requests;
+    let n = t.count as usize;
+    put_token_fixed(out, t);
+    words::put_u32s(out, layout::REQUESTS_AT, &requests[..n]);
+}
+
+// Writes a token frame to the front of `out`. Ruled out: a malformed one written; a refusal that has written
+// the header already.
 pub fn write_token(t: Token, out: &mut [u8]) -> Written
     ensures { λ r. ⌜ outcomeOf r ≡ (tokenWritten t (now (out .entry))) .outcome ⌝ }
     ensures { λ _. ⌜ now (out .exit) ≡ (tokenWritten t (now (out .entry))) .out ⌝ }
 {
-    let requests = t.requests;
     if !token::token_follows(t) {
         return Written::Refused(Refusal::Malformed);
     }
@@ -86,8 +106,6 @@ pub fn write_token(t: Token, out: &mut [u8]) -> Written
     if out.len() < size {
         return Written::Refused(Refusal::NoRoom);
     }
-    let n = t.count as usize;
-    put_token_fixed(out, t);
-    words::put_u32s(out, layout::REQUESTS_AT, &requests[..n]);
+    put_token(t, out);
     Written::Size(size)
 }

@@ -24,3 +24,4 @@ pub mod Fits
 pub mod RoundTrip
 pub mod LentLaws
 pub mod PostLent
+pub mod PartLaws

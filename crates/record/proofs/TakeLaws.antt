@@ -1,15 +1,29 @@
 -- The oldest posts are taken: what the code's copies leave is what `taken` says.
 use Prim.Native.Nat.{ℕ, _*_, _-_, _≤_}
-use mathlib.Core.Path.{_≡_}
-use mathlib.Core.List.{List, _++_}
+use mathlib.Core.Path.{_≡_, _∙_}
+use mathlib.Core.List.{List, [], _++_, append-nil}
+use native.Mathlib.Nat.{sub-zero}
 use native.Mathlib.Omega.{arith}
-use lib.ListN.{take, drop, replicate}
+use lib.ListN.{length, take, drop, replicate, drop-of-length-le}
+use lib.Seq.{sets}
+use Rattle.words.proofs.StoreLaws.{front-stored}
 use Rattle.frames.specs.Layout.{mostContent}
 use Rattle.record.specs.Size.{mostPosts, postContents}
 use Rattle.record.specs.Posts.{taken}
 use Rattle.record.specs.declared.posts.Posts.{Posts}
 use Rattle.record.proofs.Arrays.{PostsArrays}
 use Rattle.record.proofs.ListLaws.{moved-up}
+
+-- a run as long as the list, stored at its front, is all of it
+pub whole-stored : (l xs ys : List ℕ) → length xs ≡ length l → ys ≡ sets l 0 xs → ys ≡ xs
+whole-stored l xs ys long e =
+    let none : drop (length l) l ≡ [] = drop-of-length-le l {i = length l} (omega arith) in
+    e ∙ front-stored (length l) xs l long (omega arith) ∙ rw (none, append-nil)
+
+-- none is taken
+pub none-taken : (p : Posts) (n : ℕ) → n ≡ 0 → p ≡ taken p n
+unfolding taken
+none-taken p n e = rw (e, sub-zero, append-nil (p .services), append-nil (p .lengths), append-nil (p .contents))
 
 pub posts-taken : (p : Posts) (n : ℕ) (services lengths contents : List ℕ)
     → PostsArrays p

@@ -1,8 +1,9 @@
 -- A head over contents that are lent: the log, the posts and the record that they make up.
 use Prim.Native.Nat.{ℕ, _+_}
 use mathlib.Core.List.{List}
+use Rattle.frames.specs.declared.number.MessageNumber.{MessageNumber}
 use Rattle.record.specs.Size.{heldContents, postContents}
-use Rattle.record.specs.Layout.{heldMessagesAt, heldContentsAt, postContentsAt}
+use Rattle.record.specs.Layout.{logAt, postsAt, heldMessagesAt, heldContentsAt, postContentsAt}
 use Rattle.record.specs.Bytes.{bytesAt}
 use Rattle.record.specs.declared.head.LogHead.{LogHead}
 use Rattle.record.specs.declared.head.PostsHead.{PostsHead}
@@ -34,6 +35,21 @@ postsOn p contents = record { count = p .count; services = p .services; lengths 
 abbrev pub recordOn : Head → List ℕ → List ℕ → Record
 recordOn h contents waiting = record { own = h .own; log = logOn (h .log) contents; turn = h .turn; posts = postsOn (h .posts) waiting }
 
+-- the head of a log with other marks and other messages
+abbrev pub headWith : LogHead → MessageNumber → MessageNumber → MessageNumber → List ℕ → List ℕ → List ℕ → LogHead
+headWith l level safe delivered senders services lengths =
+    record {
+      ring = l .ring;
+      count = l .count;
+      members = l .members;
+      level = level;
+      safe = safe;
+      delivered = delivered;
+      senders = senders;
+      services = services;
+      lengths = lengths;
+    }
+
 -- ---- the contents in a record's bytes: of the log that stands at `at`, and of the posts that stand there
 
 abbrev pub contentsIn : List ℕ → ℕ → List ℕ
@@ -41,6 +57,25 @@ contentsIn s at = bytesAt heldContents s (at + heldMessagesAt + heldContentsAt)
 
 abbrev pub waitingIn : List ℕ → ℕ → List ℕ
 waitingIn s at = bytesAt postContents s (at + postContentsAt)
+
+-- the record in these bytes, with this head in place of its own
+abbrev pub recordIn : Head → List ℕ → Record
+recordIn h s = recordOn h (contentsIn s logAt) (waitingIn s postsAt)
+
+-- the head of a log: all but the contents
+abbrev pub headOf : Log → LogHead
+headOf l =
+    record {
+      ring = l .ring;
+      count = l .count;
+      members = l .members;
+      level = l .level;
+      safe = l .safe;
+      delivered = l .delivered;
+      senders = l .held .senders;
+      services = l .held .services;
+      lengths = l .held .lengths;
+    }
 
 -- the record with other posts
 abbrev pub withPosts : Record → Posts → Record

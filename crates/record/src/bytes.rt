@@ -8,9 +8,9 @@ ghost use Rattle.frames.specs.Layout.{mostContent};
 ghost use Rattle.record.specs.Size.{mostMembers, mostPosts};
 ghost use Rattle.record.specs.Fresh.{fresh};
 ghost use Rattle.record.specs.Posts.{queued};
-ghost use Rattle.record.specs.Layout.{recordSize, logAt, postsAt};
+ghost use Rattle.record.specs.Layout.{recordSize};
 ghost use Rattle.record.specs.Bytes.{recordOf, recordBytes};
-ghost use Rattle.record.specs.Head.{recordOn, contentsIn, waitingIn, withPosts};
+ghost use Rattle.record.specs.Head.{recordIn, withPosts};
 use crate::Record;
 use crate::fresh;
 use crate::head;
@@ -27,9 +27,7 @@ use frames::RingNumber;
 // The head of the record in the first RECORD_SIZE bytes. Ruled out: two marks swapped; a field one byte off.
 pub fn get_head(s: &[u8]) -> Head
     requires { ⌜ recordSize ≤ length (now s) ⌝ }
-    ensures { λ r. ⌜
-        recordOn r (contentsIn (now (s .entry)) logAt) (waitingIn (now (s .entry)) postsAt)
-        ≡ recordOf (now (s .entry)) ⌝ }
+    ensures { λ r. ⌜ recordIn r (now (s .entry)) ≡ recordOf (now (s .entry)) ⌝ }
 {
     Head {
         own: words::get_u16(s, layout::OWN_AT),
@@ -42,10 +40,7 @@ pub fn get_head(s: &[u8]) -> Head
 // To the first RECORD_SIZE bytes. Ruled out: a content or a byte past them changed; a field left out.
 pub fn put_head(out: &mut [u8], h: Head)
     requires { ⌜ recordSize ≤ length (now out) ⌝ }
-    ensures { λ _. ⌜
-        now (out .exit)
-        ≡ recordBytes (recordOn h (contentsIn (now (out .entry)) logAt) (waitingIn (now (out .entry)) postsAt))
-        ++ drop recordSize (now (out .entry)) ⌝ }
+    ensures { λ _. ⌜ now (out .exit) ≡ recordBytes (recordIn h (now (out .entry))) ++ drop recordSize (now (out .entry)) ⌝ }
 {
     words::put_u16(out, layout::OWN_AT, h.own);
     log_bytes::put_log_head(out, layout::LOG_AT, h.log);

@@ -71,4 +71,6 @@ pub const RECORD_SIZE: usize = POSTS_AT + POSTS_SIZE;
 // The contents, counted from the record's first byte: of the held messages, and of the waiting posts.
 pub const CONTENTS_AT: usize = LOG_AT + HELD_AT + HELD_CONTENTS_AT;
 
+pub const CONTENTS_END: usize = CONTENTS_AT + size::HELD_CONTENTS;
+
 pub const WAITING_AT: usize = POSTS_AT + POST_CONTENTS_AT;

@@ -61,14 +61,17 @@ pub fn queue(posts: Posts, service: u16, content: &[u8]) -> Posts
     }
 }
 
-// Without the n oldest: the others move up. Ruled out: the newest taken; a content left behind.
-pub fn take_oldest(posts: Posts, n: u8) -> Posts
-    requires { ⌜ (n ≤ posts .count) × (posts .count ≤ mostPosts) ⌝ }
-    ensures { λ r. ⌜ r ≡ taken posts n ⌝ }
+// Without the n oldest: the others move up, in the contents that are lent too. Ruled out: the newest taken; a
+// content left behind.
+pub fn take_oldest(p: PostsHead, waiting: &mut [u8], n: u8) -> PostsHead
+    requires { ⌜ (n ≤ p .count) × (p .count ≤ mostPosts) × (length (now waiting) ≡ postContents) ⌝ }
+    ensures { λ r. ⌜ postsOn r (now (waiting .exit)) ≡ taken (postsOn p (now (waiting .entry))) n ⌝ }
 {
-    let waiting_services = posts.services;
-    let waiting_lengths = posts.lengths;
-    let waiting_contents = posts.contents;
+    if n == 0 {
+        return p;
+    }
+    let waiting_services = p.services;
+    let waiting_lengths = p.lengths;
     let mut services = [0u16; size::MOST_POSTS];
     let mut lengths = [0u8; size::MOST_POSTS];
     let mut contents = [0u8; size::POST_CONTENTS];
@@ -77,15 +80,15 @@ pub fn take_oldest(posts: Posts, n: u8) -> Posts
     words::copy_u16s(&waiting_services, first, rest, &mut services);
     words::get_bytes(&waiting_lengths, first, rest, &mut lengths);
     words::get_bytes(
-        &waiting_contents,
+        waiting,
         frames::MOST_CONTENT * first,
         frames::MOST_CONTENT * rest,
         &mut contents,
     );
-    Posts {
-        count: posts.count - n,
+    words::put_bytes(waiting, 0, &contents);
+    PostsHead {
+        count: p.count - n,
         services,
         lengths,
-        contents,
     }
 }

@@ -8,7 +8,6 @@ ghost use Rattle.frames.specs.Number.{mostNumber};
 ghost use Rattle.frames.specs.Layout.{longestToken};
 ghost use Rattle.record.specs.Size.{mostMembers, heldContents, postContents};
 ghost use Rattle.record.specs.Head.{logOn, recordOn};
-ghost use Rattle.record.specs.Held.{holds};
 ghost use Rattle.record.specs.Members.{isMember, foundable};
 ghost use Rattle.record.specs.Ring.{ids};
 ghost use Rattle.record.specs.Whole.{sendersAreMembers, leaveIsGood, marksInOrder, arusReached, heldToLevel, nextNotHeld, whole};
@@ -73,16 +72,6 @@ fn arus_reached(t: Turn, level: MessageNumber) -> bool
     (t.aru.0 <= level.0) & (t.earlier.0 <= level.0)
 }
 
-// Is this number held?
-fn is_held(l: LogHead, contents: &[u8], n: MessageNumber) -> bool
-    requires { ⌜ l .safe .0 ≤ mostNumber ⌝ }
-    ensures { λ r. ⌜ r ≡ holds (logOn l (now (contents .entry))) (n .0) ⌝ }
-{
-    let senders = l.senders;
-    let place = n.0 as usize % size::MOST_HELD;
-    held::in_use(l.safe, senders[place], n)
-}
-
 fn held_to_level(l: LogHead, contents: &[u8]) -> bool
     requires { ⌜ (l .safe .0 ≤ mostNumber) × (l .level .0 ≤ mostNumber) ⌝ }
     ensures { λ r. ⌜ r ≡ heldToLevel (logOn l (now (contents .entry))) ⌝ }
@@ -90,7 +79,7 @@ fn held_to_level(l: LogHead, contents: &[u8]) -> bool
     let level = l.level.0;
     let mut n = l.safe.0 + 1;
     while n <= level {
-        let good = is_held(l, contents, MessageNumber(n));
+        let good = held::is_held(l.safe, &l.senders, MessageNumber(n));
         if !good {
             return false;
         }
@@ -103,7 +92,7 @@ fn next_not_held(l: LogHead, contents: &[u8]) -> bool
     requires { ⌜ (l .safe .0 ≤ mostNumber) × (l .level .0 ≤ mostNumber) ⌝ }
     ensures { λ r. ⌜ r ≡ nextNotHeld (logOn l (now (contents .entry))) ⌝ }
 {
-    !is_held(l, contents, MessageNumber(l.level.0 + 1))
+    !held::is_held(l.safe, &l.senders, MessageNumber(l.level.0 + 1))
 }
 
 // The clauses on members: held senders, the token that may be resent, the founding questions.

@@ -13,7 +13,7 @@ use Rattle.record.specs.declared.Record.{Record}
 use Rattle.station.specs.Reply.{Reply}
 use Rattle.station.proofs.ReplyGood.{resent-either}
 use Rattle.totem.specs.Over.{idsIn, postOver, arriveOver, resendOver}
-use Rattle.totem.proofs.OverLaws.{over-room}
+use Rattle.totem.proofs.FoundOver.{over-room}
 use Rattle.totem.proofs.ThereLaws.{posted-there, arrived-there, founded-there}
 use Rattle.ring.specs.Calls.{Call, post, arrival, resending, placeOf, replyTo}
 use Rattle.ring.specs.Run.{Ring, foundedAt, records, update, step, start, run}

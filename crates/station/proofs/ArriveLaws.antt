@@ -1,6 +1,6 @@
 -- Arrival, question by question.
 use Prim.Native.Nat.{ℕ, suc, _+_, _-_, _<_, _≤_}
-use mathlib.Core.Path.{_≡_, refl, sym, _∙_}
+use mathlib.Core.Path.{_≡_, refl, sym, ap, _∙_}
 use mathlib.Core.Bool.{Bool, true, false, not, _||_, _&&_, and-false, cond}
 use mathlib.Core.List.{List, []}
 use borrow.Author.Tests.{leb-true, le-leb, lt-leb, le-ltb, lt-ltb, eq-eqb, ne-eqb}
@@ -22,49 +22,56 @@ use Rattle.frames.specs.declared.reader.Answer.the-variants.{Refused as Unreada
 use Rattle.frames.proofs.Facts.{part}
 use Rattle.record.specs.Size.{mostHeld}
 use Rattle.record.specs.Count.{everyFrom}
+use Rattle.record.specs.Bytes.{recordBytes}
+use Rattle.record.specs.Head.{recordIn}
 use Rattle.record.specs.Held.{holds}
 use Rattle.record.specs.Members.{isMember}
 use Rattle.record.specs.Ring.{current, ids, thisRing, tokenMembers}
 use Rattle.record.specs.Whole.{whole}
+use Rattle.record.specs.declared.head.Head.{Head}
 use Rattle.record.specs.declared.log.Log.{Log}
 use Rattle.record.specs.declared.Record.{Record}
 use Rattle.record.proofs.WholeFacts.{whole-good}
-use Rattle.station.specs.Reply.{Reply, refused, asks, doneOf, followedBy, mostFrames, mostDeliveries}
+use Rattle.station.specs.Reply.{Reply, refused, asks, followedBy, mostFrames, mostDeliveries}
 use Rattle.station.specs.Message.{messageHeard}
 use Rattle.station.specs.Visit.{accepted}
 use Rattle.station.specs.Arrive.{readerRefusal, coversHeld, messageArrived, tokenArrived, frameArrived, arrived}
 use Rattle.station.specs.EveryArrival.{visit}
+use Rattle.station.specs.Steps.{HeadIn}
+use Rattle.station.specs.declared.answer.Answer.{Answer}
+use Rattle.station.specs.declared.answer.Answer.the-variants.{Refused}
 use Rattle.station.specs.declared.refusal.Refusal.{Refusal}
 use Rattle.station.specs.declared.refusal.Refusal.the-variants.{NoRoom, NotWhole, OtherRing, NotMember, OtherAddressee, OldToken, LastToken, BelowHeld}
-use Rattle.station.specs.declared.done.Done.{Done}
 use Rattle.station.proofs.ReplyLaws.{asked}
 use Rattle.station.proofs.ArrivedCases.{ReadCase, unread, message, token, read-case}
 
--- ---- of a call with buffers for deliveries, or for frames and deliveries, once it is known what the reply is
+-- ---- of a call on lent bytes with a buffer for deliveries, or for frames and deliveries, once it is known what the reply is
 
-pub leaves-deliveries : (reply known : Reply) (done : Done) (out out′ : List ℕ)
+pub leaves-deliveries : (reply known : Reply) (a : Answer) (s′ out out′ : List ℕ)
     → reply ≡ known
-    → (done ≡ doneOf known) × (out′ ≡ followedBy (known .deliveries) out)
-    → (done ≡ doneOf reply) × (out′ ≡ followedBy (reply .deliveries) out)
-leaves-deliveries reply known done out out′ e h = rw e h
+    → (a ≡ known .answer) × (s′ ≡ recordBytes (known .rec)) × (out′ ≡ followedBy (known .deliveries) out)
+    → (a ≡ reply .answer) × (s′ ≡ recordBytes (reply .rec)) × (out′ ≡ followedBy (reply .deliveries) out)
+leaves-deliveries reply known a s′ out out′ e l = rw e l
 
-pub refuses-deliveries : (reply : Reply) (r : Record) (why : Refusal) (done : Done) (out : List ℕ)
-    → reply ≡ refused r why
-    → done ≡ doneOf (refused r why)
-    → (done ≡ doneOf reply) × (out ≡ followedBy (reply .deliveries) out)
-refuses-deliveries reply r why done out e d = rw e (d, refl)
+pub refuses-deliveries : (reply : Reply) (h : Head) (s out : List ℕ) (why : Refusal)
+    → HeadIn h s
+    → reply ≡ refused (recordIn h s) why
+    → (Refused why ≡ reply .answer) × (s ≡ recordBytes (reply .rec)) × (out ≡ followedBy (reply .deliveries) out)
+refuses-deliveries reply h s out why there e = (sym (ap (λ (x : Reply). x .answer) e), there .bytes ∙ sym (ap (λ (x : Reply). recordBytes (x .rec)) e), sym (ap (λ (x : Reply). followedBy (x .deliveries) out) e))
 
-pub leaves-both : (reply known : Reply) (done : Done) (frames frames′ out out′ : List ℕ)
+pub leaves-both : (reply known : Reply) (a : Answer) (s′ frames frames′ out out′ : List ℕ)
     → reply ≡ known
-    → (done ≡ doneOf known) × (frames′ ≡ followedBy (known .frames) frames) × (out′ ≡ followedBy (known .deliveries) out)
-    → (done ≡ doneOf reply) × (frames′ ≡ followedBy (reply .frames) frames) × (out′ ≡ followedBy (reply .deliveries) out)
-leaves-both reply known done frames frames′ out out′ e h = rw e h
+    → (a ≡ known .answer) × (s′ ≡ recordBytes (known .rec)) × (frames′ ≡ followedBy (known .frames) frames) × (out′ ≡ followedBy (known .deliveries) out)
+    → (a ≡ reply .answer) × (s′ ≡ recordBytes (reply .rec)) × (frames′ ≡ followedBy (reply .frames) frames) × (out′ ≡ followedBy (reply .deliveries) out)
+leaves-both reply known a s′ frames frames′ out out′ e l = rw e l
 
-pub refuses-both : (reply : Reply) (r : Record) (why : Refusal) (done : Done) (frames out : List ℕ)
-    → reply ≡ refused r why
-    → done ≡ doneOf (refused r why)
-    → (done ≡ doneOf reply) × (frames ≡ followedBy (reply .frames) frames) × (out ≡ followedBy (reply .deliveries) out)
-refuses-both reply r why done frames out e d = rw e (d, refl, refl)
+pub refuses-both : (reply : Reply) (h : Head) (s frames out : List ℕ) (why : Refusal)
+    → HeadIn h s
+    → reply ≡ refused (recordIn h s) why
+    → (Refused why ≡ reply .answer) × (s ≡ recordBytes (reply .rec)) × (frames ≡ followedBy (reply .frames) frames) × (out ≡ followedBy (reply .deliveries) out)
+refuses-both reply h s frames out why there e =
+    let l = refuses-deliveries reply h s out why there e in
+    (l .0, l .1, sym (ap (λ (x : Reply). followedBy (x .frames) frames) e), l .2)
 
 -- ---- 18, number by number
 
@@ -134,13 +141,13 @@ module _ (r : Record) (m : Message) (content : List ℕ) where
       asked (λ reply. reply .frames ≡ []) r (thisRing (current r .ring .0) (ids (current r)) (m .header)) OtherRing _ refl (λ this.
       asked (λ reply. reply .frames ≡ []) r (isMember (ids (current r)) (m .sender)) NotMember _ refl (λ member. refl))
 
-  pub leaves-frames : (reply : Reply) (done : Done) (frames out out′ : List ℕ)
+  pub leaves-frames : (reply : Reply) (a : Answer) (s′ frames out out′ : List ℕ)
       → reply ≡ messageArrived r m content
-      → (done ≡ doneOf (messageArrived r m content)) × (out′ ≡ followedBy (messageArrived r m content .deliveries) out)
-      → (done ≡ doneOf reply) × (frames ≡ followedBy (reply .frames) frames) × (out′ ≡ followedBy (reply .deliveries) out)
-  leaves-frames reply done frames out out′ e h =
+      → (a ≡ messageArrived r m content .answer) × (s′ ≡ recordBytes (messageArrived r m content .rec)) × (out′ ≡ followedBy (messageArrived r m content .deliveries) out)
+      → (a ≡ reply .answer) × (s′ ≡ recordBytes (reply .rec)) × (frames ≡ followedBy (reply .frames) frames) × (out′ ≡ followedBy (reply .deliveries) out)
+  leaves-frames reply a s′ frames out out′ e l =
       let same : frames ≡ followedBy (messageArrived r m content .frames) frames = rw no-frames in
-      rw e (h .0, same, h .1)
+      rw e (l .0, l .1, same, l .2)
 
 -- ---- 13 to 18, of a token
 

@@ -1,8 +1,8 @@
 -- Steps 1 to 3 as the code makes them: what each call hands to the next.
-use Prim.Native.Nat.{ℕ, _+_, _*_, _-_, _<_, _≤_}
+use Prim.Native.Nat.{ℕ, _+_, _*_, _-_, _≤_}
 use mathlib.Core.Path.{_≡_, ap, _∙_}
 use mathlib.Core.Bool.{true, not}
-use mathlib.Core.List.{List, _++_, map}
+use mathlib.Core.List.{List, map}
 use native.Mathlib.Nat.{sub-zero}
 use native.Mathlib.Omega.{arith}
 use lib.ListN.{length, take, length-take}
@@ -10,23 +10,24 @@ use lib.Seq.{sets}
 use Rattle.frames.specs.Number.{mostNumber}
 use Rattle.frames.specs.Layout.{longestMessage, mostRequests}
 use Rattle.frames.specs.Header.{headerFollows}
+use Rattle.record.specs.Head.{logOn, headOf}
 use Rattle.record.specs.Held.{holds}
 use Rattle.record.specs.Posts.{waiting}
 use Rattle.record.specs.Whole.{postsInRange}
-use Rattle.record.specs.declared.log.Log.{Log}
+use Rattle.record.specs.declared.head.LogHead.{LogHead}
 use Rattle.record.proofs.WholeFacts.{LogGood}
 use Rattle.station.specs.Level.{raised}
 use Rattle.station.specs.Reply.{mostFrames}
 use Rattle.station.specs.Deliver.{ringHeader, frameOf, joined}
-use Rattle.station.specs.Visit.{Visit, log, own, posts, those, requests, repeats, unanswered, newCount, withNews, numbersAfter, news, logNow, highest′, broadcasts}
+use Rattle.station.specs.Visit.{Visit, log, own, posts, those, requests, repeats, unanswered, newCount, withNews, logNow, broadcasts}
 use Rattle.station.specs.EveryArrival.{Each, Acceptable}
-use Rattle.station.specs.Steps.{listed, listIn, sentFrames, sentOf}
+use Rattle.station.specs.Steps.{listed, listIn, repeatFrames, sentOf}
 use Rattle.station.specs.declared.requests.Sifted.{Sifted}
 use Rattle.station.proofs.RingFacts.{ring-header}
 use Rattle.station.proofs.EachLaws.{those-pass}
 use Rattle.station.proofs.NewsLaws.{news-rest}
 use Rattle.station.proofs.ListedLaws.{list-of-listed, count-of-listed}
-use Rattle.station.proofs.VisitFacts.{facts, token-good, new-posts, new-numbers, few-repeats, few-broadcasts, now-good, now-new, now-ring}
+use Rattle.station.proofs.VisitFacts.{facts, token-good, new-posts, new-numbers, few-repeats, few-broadcasts}
 
 module _ (v : Visit) (a : Acceptable v) where
   pub safe-most : log v .safe .0 ≤ mostNumber
@@ -81,48 +82,32 @@ module _ (v : Visit) (a : Acceptable v) where
       pub sent-few : s .held .count + n ≤ 16
       sent-few = omega (arith, sent-count, few-broadcasts v a)
 
-      module _ (l : Log) (holds-news : l ≡ withNews (log v) (own v) (v .token .highest .0) (take n (waiting (posts v)))) where
+      module _ (l : LogHead) (holds-news : l ≡ headOf (withNews (log v) (own v) (v .token .highest .0) (take n (waiting (posts v))))) where
         rest-stays : (l .safe .0 ≡ log v .safe .0) × (l .level .0 ≡ log v .level .0)
         rest-stays =
-            let rest = news-rest (log v) (own v) (v .token .highest .0) (take n (waiting (posts v))) in
-            (ap (λ (x : Log). x .safe .0) (holds-news ∙ rest), ap (λ (x : Log). x .level .0) (holds-news ∙ rest))
+            let rest = ap headOf (news-rest (log v) (own v) (v .token .highest .0) (take n (waiting (posts v)))) in
+            (ap (λ (x : LogHead). x .safe .0) (holds-news ∙ rest), ap (λ (x : LogHead). x .level .0) (holds-news ∙ rest))
 
         pub level-ready : (l .safe .0 ≤ mostNumber) × (l .level .0 ≤ mostNumber)
         level-ready = let marks = facts v a .log .ready .marks in (omega (arith, rest-stays .0, safe-most), omega (arith, rest-stays .1, marks .level-most))
 
-        module _ (l′ : Log) (raises : l′ ≡ raised l) where
-          now-is : l′ ≡ logNow v
+        module _ (l′ : LogHead) (raises : (contents : List ℕ) → logOn l′ contents ≡ raised (logOn l contents)) where
+          now-is : l′ ≡ headOf (logNow v)
           unfolding logNow
-          now-is = raises ∙ rw (holds-news, counts)
+          now-is =
+              let held = withNews (log v) (own v) (v .token .highest .0) (take n (waiting (posts v))) in
+              ap headOf (raises (held .held .contents)) ∙ rw (holds-news, counts)
 
-          pub record BothReady (long : ℕ) : Type 0 where
-            pub good : LogGood (log v)
-            pub header : headerFollows (ringHeader (log v)) ≡ true
-            pub good′ : LogGood l′
-            pub header′ : headerFollows (ringHeader l′) ≡ true
-            pub held′ : (k : ℕ) → v .token .highest .0 < k → k ≤ v .token .highest .0 + n → holds l′ k ≡ true
-            pub most : v .token .highest .0 + n ≤ mostNumber
-            pub room : longestMessage * (s .held .count + n) ≤ long
-
-          pub both-ready : (long : ℕ) → mostFrames ≤ long → BothReady long
-          unfolding highest′
-          both-ready long enough =
-              record {
-                good = facts v a .log;
-                header = ring-header (v .rec) (facts v a);
-                good′ = rw now-is (now-good v a);
-                header′ = rw (now-is, now-ring v a) (ring-header (v .rec) (facts v a));
-                held′ = λ k low high. rw now-is (now-new v a k low (omega (arith, counts)));
-                most = news-allowed .2;
-                room = omega (arith, sent-few);
-              }
+          pub repeats-ready : (long : ℕ)
+              → mostFrames ≤ long
+              → LogGood (log v) × (headerFollows (ringHeader (log v)) ≡ true) × (s .held .count ≤ mostRequests) × Each (λ n. holds (log v) n ≡ true) (listIn (s .held)) × (longestMessage * s .held .count ≤ long)
+          repeats-ready long enough = (facts v a .log, ring-header (v .rec) (facts v a), sifted-few, sifted-held, omega (arith, sent-few))
 
           pub all-sent : (size : ℕ) (out out′ : List ℕ)
-              → (size ≡ length (joined (map (frameOf (log v)) (listIn (s .held)) ++ map (frameOf l′) (numbersAfter (v .token .highest .0) n))))
-              × (out′ ≡ sets out 0 (joined (map (frameOf (log v)) (listIn (s .held)) ++ map (frameOf l′) (numbersAfter (v .token .highest .0) n))))
+              → (size ≡ length (joined (map (frameOf (log v)) (listIn (s .held))))) × (out′ ≡ sets out 0 (joined (map (frameOf (log v)) (listIn (s .held)))))
               → (record { log = l′; rest = s .rest; news = n; count = s .held .count + n; size = size } ≡ sentOf v)
-              × (out′ ≡ sets out 0 (joined (sentFrames v)))
-          unfolding sentOf news
+              × (out′ ≡ sets out 0 (joined (repeatFrames v)))
+          unfolding sentOf
           all-sent size out out′ e =
-              let f = rw (sifted-list, now-is, counts) at e in
+              let f = rw sifted-list at e in
               (rw (f .0, sifted-rest, sent-count, now-is, counts), f .1)

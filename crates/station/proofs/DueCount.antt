@@ -10,13 +10,12 @@ use lib.Seq.{sets}
 use Rattle.words.proofs.StoreLaws.{front-stored}
 use Rattle.frames.specs.Number.{mostNumber}
 use Rattle.record.specs.Size.{mostHeld}
-use Rattle.record.specs.Held.{holds, logWith}
+use Rattle.record.specs.Held.{holds}
 use Rattle.record.specs.declared.log.Log.{Log}
 use Rattle.record.proofs.WholeFacts.{LogGood}
 use Rattle.station.specs.Reply.{followedBy, mostDeliveries}
-use Rattle.station.specs.Deliver.{frameOf, joined, isDue, dueFrom, due, handedOut, delivered}
+use Rattle.station.specs.Deliver.{frameOf, joined, isDue, dueFrom, due, handedOut}
 use Rattle.station.specs.Visit.{numbersAfter}
-use Rattle.station.specs.declared.delivering.Handed.{Handed}
 use Rattle.station.proofs.DueLaws.{due-most}
 use Rattle.station.proofs.FrameLaws.{Writable, handed-fits}
 use Rattle.station.proofs.LogSteps.{level-window}
@@ -95,16 +94,14 @@ module _ (l : Log) (safe n : ℕ) (counted : n ≡ length (due l safe)) where
         few = omega (arith, level-window l marks, marks .safe-first);
       }
 
-  pub run-handed : (handed : Handed) (size : ℕ) (out out′ : List ℕ)
+  pub run-handed : (size : ℕ) (out out′ : List ℕ)
       → Writable l
       → mostDeliveries ≤ length out
-      → handed ≡ record { log = logWith l (l .level) (l .safe) (record { 0 = l .delivered .0 + n }) (l .held); size = size }
       → size ≡ length (joined (map (frameOf l) (numbersAfter (l .delivered .0) n)))
       → out′ ≡ sets out 0 (joined (map (frameOf l) (numbersAfter (l .delivered .0) n)))
-      → (handed ≡ record { log = delivered l safe; size = length (handedOut l safe) }) × (out′ ≡ followedBy (handedOut l safe) out)
-  unfolding delivered
-  run-handed handed size out out′ w room e s o =
-      let whole : size ≡ length (handedOut l safe) = rw due-run at s in (
-        e ∙ rw (whole, counted),
-        rw due-run at o ∙ front-stored (length (handedOut l safe)) (handedOut l safe) out refl (omega (arith, handed-fits l w safe)),
-      )
+      → (n ≡ length (due l safe)) × (size ≡ length (handedOut l safe)) × (out′ ≡ followedBy (handedOut l safe) out)
+  run-handed size out out′ w room s o = (
+    counted,
+    rw due-run at s,
+    rw due-run at o ∙ front-stored (length (handedOut l safe)) (handedOut l safe) out refl (omega (arith, handed-fits l w safe)),
+  )

@@ -11,13 +11,14 @@ use lib.Dec.{ltb, eqb}
 use Rattle.words.specs.Scan.{lacks}
 use Rattle.frames.specs.Number.{mostNumber}
 use Rattle.frames.specs.Layout.{mostRound, mostRequests, longestToken, tokenSize}
-use Rattle.frames.specs.Token.{tokenBytes}
+use Rattle.frames.specs.Token.{tokenFollows, tokenBytes}
 use Rattle.frames.specs.Write.{written, tokenWritten}
 use Rattle.frames.specs.declared.number.MessageNumber.{MessageNumber}
 use Rattle.frames.specs.declared.header.Header.{Header}
 use Rattle.frames.specs.declared.token.Token.{Token}
 use Rattle.frames.proofs.TokenLaws.{drop-replicate}
 use Rattle.record.specs.Size.{mostMembers, mostHeld, mostStall}
+use Rattle.record.specs.Head.{logOn, headOf}
 use Rattle.record.specs.Held.{holds}
 use Rattle.record.specs.declared.turn.Turn.{Turn}
 use Rattle.station.specs.Deliver.{ringHeader}
@@ -76,7 +77,7 @@ module _ (v : Visit) (a : Acceptable v) where
   -- ---- what was sent
 
   module _ (b : Sent) (sends : b ≡ sentOf v) where
-    pub sent-log : b .log ≡ logNow v
+    pub sent-log : b .log ≡ headOf (logNow v)
     unfolding sentOf
     sent-log = ap (λ (x : Sent). x .log) sends
 
@@ -126,11 +127,11 @@ module _ (v : Visit) (a : Acceptable v) where
             )
 
         pub requested : (r : Requests)
-            → r ≡ listed (take mostRequests
-            (listIn (b .rest) ++ those (λ n. not (holds (b .log) n) && lacks (listIn (b .rest)) n) (numbersAfter (b .log .level .0) (top - b .log .level .0))))
+            → ((contents : List ℕ) → r ≡ listed (take mostRequests
+            (listIn (b .rest) ++ those (λ n. not (holds (logOn (b .log) contents) n) && lacks (listIn (b .rest)) n) (numbersAfter (b .log .level .0) (top - b .log .level .0)))))
             → r ≡ listed (requests′ v)
         unfolding requests′ missing
-        requested r e = e ∙ rw (sent-rest, list-of-listed, sent-log, tops, sent-highest, marks)
+        requested r e = e (logNow v .held .contents) ∙ rw (sent-rest, list-of-listed, sent-log, tops, sent-highest, marks)
 
     -- ---- step 8
 
@@ -163,6 +164,9 @@ module _ (v : Visit) (a : Acceptable v) where
   module _ (token : Token) (is : token ≡ token′ v) where
     pub size-fits : (size : ℕ) → size ≡ tokenSize (token .count) → size ≤ longestToken
     size-fits size e = let known : size ≡ tokenSize (length (requests′ v)) = e ∙ rw (is, token-count) in omega (arith, few-requests v a)
+
+    pub token-ready : (tokenFollows token ≡ true) × (tokenSize (token .count) ≤ longestToken)
+    token-ready = (rw is (token-follows v a), size-fits (tokenSize (token .count)) refl)
 
     pub turn-made : (bytes : List ℕ) (size count stall : ℕ)
         → bytes ≡ tokenWritten token (replicate longestToken 0) .out

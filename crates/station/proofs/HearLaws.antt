@@ -1,43 +1,50 @@
 -- The level's loop, and a message that is heard, outcome by outcome.
 use Prim.Native.Nat.{ℕ, zero, suc, _+_, _-_, _<_, _≤_}
-use mathlib.Core.Path.{_≡_, refl, sym, _∙_}
-use mathlib.Core.Bool.{Bool, true, false, cond}
+use mathlib.Core.Path.{_≡_, refl, sym, ap, _∙_}
+use mathlib.Core.Bool.{Bool, true, false, not, _&&_, cond}
 use mathlib.Core.List.{List, []}
 use native.Mathlib.Numerals.{add-one}
 use native.Mathlib.Omega.{arith}
-use lib.ListN.{length}
+use lib.ListN.{length, getD}
+use lib.Dec.{ltb, leb, eqb}
 use Rattle.frames.specs.Number.{mostNumber}
 use Rattle.frames.specs.Layout.{mostContent}
 use Rattle.frames.specs.declared.message.Message.{Message}
 use Rattle.frames.specs.declared.number.MessageNumber.{MessageNumber}
 use Rattle.frames.proofs.Facts.{message-facts}
 use Rattle.record.specs.Size.{mostHeld}
-use Rattle.record.specs.Held.{holds, logWith, stored}
+use Rattle.record.specs.Bytes.{recordBytes}
+use Rattle.record.specs.Head.{logOn, postsOn, headWith, headOf, recordIn, contentsIn, waitingIn}
+use Rattle.record.specs.Held.{placeOf, holds, logWith, stored}
+use Rattle.record.specs.Layout.{logAt, postsAt}
+use Rattle.record.specs.declared.head.LogHead.{LogHead}
+use Rattle.record.specs.declared.head.Head.{Head}
+use Rattle.record.specs.declared.head.LogHead.{LogHead}
+use Rattle.record.specs.declared.head.Head.{Head}
 use Rattle.record.specs.declared.log.Log.{Log}
 use Rattle.record.specs.declared.Record.{Record}
 use Rattle.record.proofs.WholeFacts.{whole-good}
-use Rattle.station.specs.Reply.{Reply, doneOf, followedBy, mostDeliveries}
+use Rattle.station.specs.Reply.{Reply, followedBy, mostDeliveries}
 use Rattle.station.specs.Level.{reached, levelOf, raised}
-use Rattle.station.specs.Deliver.{handedOut, delivered}
+use Rattle.station.specs.Deliver.{due, handedOut, delivered}
 use Rattle.station.specs.Message.{isHad, isAhead, entryIn, leaveEnded, logWithMessage, messageHeard}
 use Rattle.station.specs.EveryArrival.{Hearable}
+use Rattle.station.specs.Steps.{headDelivered, headTold}
 use Rattle.station.specs.declared.answer.Answer.{Answer}
 use Rattle.station.specs.declared.answer.Answer.the-variants.{Kept, Had, Ahead}
 use Rattle.station.specs.declared.delivering.Handed.{Handed}
-use Rattle.station.specs.declared.done.Done.{Done}
-use Rattle.station.specs.declared.hearing.Told.{Told}
 use Rattle.station.proofs.RingFacts.{ring-header}
 use Rattle.station.proofs.FrameLaws.{Writable, heard-writable, handed-fits}
+use Rattle.station.proofs.DueCount.{due-fits}
 
 -- ---- the level rises, by `most` more at most
 
-pub record Rising (l : Log) (level most : ℕ) : Type 0 where
-  pub both : level + most ≡ l .level .0 + mostHeld
-  pub rest : reached (holds l) most level ≡ levelOf l
+pub record Rising (has : ℕ → Bool) (first level most : ℕ) : Type 0 where
+  pub both : level + most ≡ first + mostHeld
+  pub rest : reached has most level ≡ reached has mostHeld first
 
-pub rise-starts : (l : Log) → Rising l (l .level .0) mostHeld
-unfolding levelOf
-rise-starts l = record { both = refl; rest = refl }
+pub rise-starts : (has : ℕ → Bool) (first : ℕ) → Rising has first first mostHeld
+rise-starts has first = record { both = refl; rest = refl }
 
 reached-more : (has : ℕ → Bool) (most level : ℕ) → 0 < most → reached has most level ≡ cond (has (level + 1)) (reached has (most - 1) (level + 1)) level
 unfolding reached
@@ -46,22 +53,25 @@ reached-more has (suc most) level h =
     let less : suc most - 1 ≡ most = omega arith in
     rw (less, add-one level)
 
-module _ (l : Log) (level most : ℕ) (so-far : Rising l level most) where
-  pub rise-stops : 0 < most → holds l (level + 1) ≡ false → level ≡ levelOf l
-  rise-stops h f = rw (reached-more (holds l) most level h, f) at (so-far .rest)
+module _ (has : ℕ → Bool) (first level most : ℕ) (so-far : Rising has first level most) where
+  pub rise-stops : 0 < most → has (level + 1) ≡ false → level ≡ reached has mostHeld first
+  rise-stops h f = rw (reached-more has most level h, f) at (so-far .rest)
 
-  pub rise-goes : 0 < most → holds l (level + 1) ≡ true → Rising l (level + 1) (most - 1)
-  rise-goes h f = record { both = omega (arith, so-far .both); rest = rw (reached-more (holds l) most level h, f) at (so-far .rest) }
+  pub rise-goes : 0 < most → has (level + 1) ≡ true → Rising has first (level + 1) (most - 1)
+  rise-goes h f = record { both = omega (arith, so-far .both); rest = rw (reached-more has most level h, f) at (so-far .rest) }
 
-  pub rise-ends : most ≤ 0 → level ≡ levelOf l
+  pub rise-ends : most ≤ 0 → level ≡ reached has mostHeld first
   unfolding reached
   rise-ends h =
       let none : most ≡ 0 = omega arith in
       rw none at (so-far .rest)
 
-pub raised-as : (l r : Log) (n : MessageNumber) → n .0 ≡ levelOf l → r ≡ logWith l n (l .safe) (l .delivered) (l .held) → r ≡ raised l
-unfolding raised
-raised-as l r n e f = rw (← e) f
+-- the level by the safe mark and the senders alone
+pub raised-as : (l : Log) (n : MessageNumber)
+    → n .0 ≡ reached (λ k. ltb (l .safe .0) k && leb k (l .safe .0 + mostHeld) && not (eqb (getD (l .held .senders) (placeOf k) 0) 0)) mostHeld (l .level .0)
+    → logWith l n (l .safe) (l .delivered) (l .held) ≡ raised l
+unfolding raised levelOf holds
+raised-as l n e = rw (← e)
 
 -- ---- what a message may be heard on
 
@@ -85,57 +95,65 @@ module _ (r : Record) (m : Message) (content : List ℕ) (h : Hearable r m conte
       let there = heard-writable r m content (h .whole-record) (h .follows) (h .member) in
       rw e (rw (had, ahead) at there)
 
--- ---- what is told, by what was handed out of the log that is left
+-- ---- what is told, where it is stored
 
-abbrev handedOf : Log → Handed
-handedOf l = record { log = delivered l (l .safe .0); size = length (handedOut l (l .safe .0)) }
+-- what was handed out of the log that this head makes up over these contents, and the head that is left
+abbrev HandedOf : LogHead → List ℕ → Handed → List ℕ → List ℕ → Type 0
+HandedOf l contents handed out out′ =
+    (handed .count ≡ length (due (logOn l contents) (l .safe .0)))
+    × (handed .size ≡ length (handedOut (logOn l contents) (l .safe .0)))
+    × (out′ ≡ followedBy (handedOut (logOn l contents) (l .safe .0)) out)
 
-abbrev toldWith : Record → Handed → Told
-toldWith r handed =
+pub handed-short : (l : LogHead) (contents out out′ : List ℕ) (handed : Handed) → HandedOf l contents handed out out′ → Writable (logOn l contents) → handed .size ≤ mostDeliveries
+handed-short l contents out out′ handed hands w = omega (arith, hands .1, handed-fits (logOn l contents) w (l .safe .0))
+
+pub handed-most : (l : LogHead) (contents out out′ : List ℕ) (handed : Handed) → HandedOf l contents handed out out′ → Writable (logOn l contents) → l .delivered .0 + handed .count ≤ mostNumber
+handed-most l contents out out′ handed hands w = due-fits (logOn l contents) (l .safe .0) (handed .count) (hands .0) (w .log) .most
+
+-- the record whose log has delivered, and the leave has ended
+abbrev heardOn : Record → Log → (ℕ → Answer) → Reply
+heardOn r l kind =
     record {
-      rec = record { own = r .own; log = handed .log; turn = leaveEnded (r .turn); posts = r .posts };
-      size = handed .size;
+      answer = kind (length (handedOut l (l .safe .0)));
+      rec = record { own = r .own; log = delivered l (l .safe .0); turn = leaveEnded (r .turn); posts = r .posts };
+      frames = [];
+      deliveries = handedOut l (l .safe .0);
     }
 
-abbrev toldOf : Record → Log → Told
-toldOf r l = toldWith r (handedOf l)
+-- the answer, the record's bytes and the bytes delivered are this reply's
+abbrev Leaves : Reply → Answer → List ℕ → List ℕ → List ℕ → Type 0
+Leaves reply answer s′ out out′ = (answer ≡ reply .answer) × (s′ ≡ recordBytes (reply .rec)) × (out′ ≡ followedBy (reply .deliveries) out)
 
-pub handed-short : (l : Log) (handed : Handed) → handed ≡ handedOf l → Writable l → handed .size ≤ mostDeliveries
-handed-short l handed e w = rw e (handed-fits l w (l .safe .0))
+module _ (h : Head) (s contents : List ℕ) (reads : contents ≡ contentsIn s logAt) (l : LogHead) (handed : Handed) (size : ℕ) (s′ out out′ : List ℕ)
+    (hands : HandedOf l contents handed out out′)
+    (tells : (size ≡ handed .size) × (s′ ≡ recordBytes (recordIn (headTold h (headDelivered l (handed .count))) s))) where
+  there : HandedOf l (contentsIn s logAt) handed out out′
+  there = rw reads at hands
+
+  after : logOn (headDelivered l (handed .count)) (contentsIn s logAt) ≡ delivered (logOn l (contentsIn s logAt)) (l .safe .0)
+  unfolding delivered
+  after = rw (there .0)
+
+  pub leaves-told : (reply : Reply) (kind : ℕ → Answer) → reply ≡ heardOn (recordIn h s) (logOn l (contentsIn s logAt)) kind → Leaves reply (kind size) s′ out out′
+  leaves-told reply kind e =
+      let rest : Log → Record = λ (x : Log). record { own = h .own; log = x; turn = leaveEnded (h .turn); posts = postsOn (h .posts) (waitingIn s postsAt) } in
+      rw e (ap kind (tells .0 ∙ there .1), tells .1 ∙ ap (λ (x : Log). recordBytes (rest x)) after, there .2)
 
 -- ---- had, or ahead, or kept
 
-abbrev heardOn : Record → Log → (ℕ → Answer) → Reply
-heardOn r l kind = record { answer = kind (toldOf r l .size); rec = toldOf r l .rec; frames = []; deliveries = handedOut l (l .safe .0) }
-
-leaves-told : (reply : Reply) (r : Record) (l : Log) (kind : ℕ → Answer) (handed : Handed) (t : Told) (out out′ : List ℕ)
-    → reply ≡ heardOn r l kind
-    → t ≡ toldWith r handed
-    → (handed ≡ handedOf l) × (out′ ≡ followedBy (handedOut l (l .safe .0)) out)
-    → (_≡_ {A = Done} (record { answer = kind (t .size); rec = t .rec }) (doneOf reply)) × (out′ ≡ followedBy (reply .deliveries) out)
-leaves-told reply r l kind handed t out out′ e f h = rw e (rw (f, h .0), h .1)
-
-module _ (r : Record) (m : Message) (content : List ℕ) (had : Bool) (ask-had : had ≡ isHad (r .log) (m .number .0)) (handed : Handed) (t : Told) (tells : t ≡ toldWith r handed) (out out′ : List ℕ) where
-  pub heard-had : had ≡ true
-      → (handed ≡ handedOf (r .log)) × (out′ ≡ followedBy (handedOut (r .log) (r .log .safe .0)) out)
-      → (_≡_ {A = Done} (record { answer = Had (t .size); rec = t .rec }) (doneOf (messageHeard r m content)))
-      × (out′ ≡ followedBy (messageHeard r m content .deliveries) out)
+module _ (r : Record) (m : Message) (content : List ℕ) (had : Bool) (ask-had : had ≡ isHad (r .log) (m .number .0)) where
+  pub is-heard-had : had ≡ true → messageHeard r m content ≡ heardOn r (r .log) (λ n. Had n)
   unfolding messageHeard logWithMessage
-  heard-had yes-had = leaves-told (messageHeard r m content) r (r .log) (λ n. Had n) handed t out out′ (rw (sym ask-had ∙ yes-had)) tells
+  is-heard-had yes-had = rw (sym ask-had ∙ yes-had)
 
   module _ (not-had : had ≡ false) (ahead : Bool) (ask-ahead : ahead ≡ isAhead (r .log) (m .number .0)) where
-    pub heard-ahead : ahead ≡ true
-        → (handed ≡ handedOf (r .log)) × (out′ ≡ followedBy (handedOut (r .log) (r .log .safe .0)) out)
-        → (_≡_ {A = Done} (record { answer = Ahead (t .size); rec = t .rec }) (doneOf (messageHeard r m content)))
-        × (out′ ≡ followedBy (messageHeard r m content .deliveries) out)
+    pub is-heard-ahead : ahead ≡ true → messageHeard r m content ≡ heardOn r (r .log) (λ n. Ahead n)
     unfolding messageHeard logWithMessage
-    heard-ahead yes-ahead = leaves-told (messageHeard r m content) r (r .log) (λ n. Ahead n) handed t out out′ (rw (sym ask-had ∙ not-had, sym ask-ahead ∙ yes-ahead)) tells
+    is-heard-ahead yes-ahead = rw (sym ask-had ∙ not-had, sym ask-ahead ∙ yes-ahead)
 
-    pub heard-kept : (kept : Log)
-        → ahead ≡ false
+    -- it was kept where the record is lent: the posts are as they were
+    pub is-heard-kept : ahead ≡ false → (r′ : Record) (kept : Log) → (r′ .own ≡ r .own) × (r′ .turn ≡ r .turn) × (r′ .posts ≡ r .posts)
         → kept ≡ raised (stored (r .log) (m .number .0) (entryIn m content))
-        → (handed ≡ handedOf kept) × (out′ ≡ followedBy (handedOut kept (kept .safe .0)) out)
-        → (_≡_ {A = Done} (record { answer = Kept (t .size); rec = t .rec }) (doneOf (messageHeard r m content)))
-        × (out′ ≡ followedBy (messageHeard r m content .deliveries) out)
+        → messageHeard r m content ≡ heardOn r′ kept (λ n. Kept n)
     unfolding messageHeard logWithMessage
-    heard-kept kept not-ahead e = leaves-told (messageHeard r m content) r kept (λ n. Kept n) handed t out out′ (rw (sym ask-had ∙ not-had, sym ask-ahead ∙ not-ahead, e)) tells
+    is-heard-kept not-ahead r′ kept same e = rw (sym ask-had ∙ not-had, sym ask-ahead ∙ not-ahead, same .0, same .1, same .2, e)

@@ -1,17 +1,19 @@
--- New messages are held one after another: what is left of the posts decides the whole.
-use Prim.Native.Nat.{ℕ, zero, suc, _+_, _-_, _<_, _≤_}
-use mathlib.Core.Path.{_≡_, refl, ap, _∙_}
-use mathlib.Core.List.{List, _∷_}
+-- New messages are held one after another: what is left of the posts decides the whole. First the head with them, then their contents.
+use Prim.Native.Nat.{ℕ, zero, suc, _+_, _*_, _-_, _<_, _≤_}
+use mathlib.Core.Path.{_≡_, refl, sym, ap, _∙_}
+use mathlib.Core.List.{List, [], _∷_}
 use native.Mathlib.Nat.{add-zero, sub-zero}
 use native.Mathlib.Omega.{arith}
-use lib.ListN.{take}
-use lib.Seq.{take-at}
-use Rattle.record.specs.Held.{placeOf, heldWith, logWith}
-use Rattle.record.specs.Posts.{postAt, postsFrom, waiting}
-use Rattle.record.specs.declared.log.Held.{Held}
-use Rattle.record.specs.declared.log.Log.{Log}
+use lib.ListN.{length, getD, set, take, drop, length-drop}
+use lib.Seq.{sets, take-at, length-take-le}
+use Rattle.frames.specs.Layout.{mostContent}
+use Rattle.record.specs.Head.{logOn, headOf, headWith}
+use Rattle.record.specs.Held.{placeOf, heldWith}
+use Rattle.record.specs.Posts.{Post, postAt, postsFrom, waiting}
+use Rattle.record.specs.declared.head.LogHead.{LogHead}
 use Rattle.record.specs.declared.posts.Posts.{Posts}
 use Rattle.record.proofs.PostLaws.{length-posts, posts-add}
+use Rattle.record.proofs.RangeFacts.{PostsRange}
 use Rattle.station.specs.Visit.{sentBy, withNews}
 
 -- the n oldest
@@ -31,37 +33,106 @@ unfolding postsFrom
 posts-same p n i zero = refl
 posts-same p n i (suc k) = ap (λ rest. postAt p i ∷ rest) (posts-same p n (suc i) k)
 
--- the log with other messages
-abbrev withHeld : Log → Held → Log
-withHeld l h = logWith l (l .level) (l .safe) (l .delivered) h
+-- a post's content is as long as the posts say
+content-long : (p : Posts) (i : ℕ) → PostsRange p → i < p .count → length (postAt p i .content) ≡ getD (p .lengths) i 0
+content-long p i range h =
+    length-take-le (getD (p .lengths) i 0) (drop (mostContent * i) (p .contents)) (rw length-drop (omega (arith, range .arrays .contents, range .lengths i, range .count)))
 
--- of the n oldest posts the first i are held
-pub record Holding (first : Log) (own highest : ℕ) (p : Posts) (n : ℕ) (h : Held) (i : ℕ) : Type 0 where
+-- ---- the head
+
+-- the head once a post is held
+abbrev after : LogHead → ℕ → ℕ → Post → LogHead
+after l own place p = headWith l (l .level) (l .safe) (l .delivered) (set (l .senders) place own) (set (l .services) place (p .service)) (set (l .lengths) place (length (p .content)))
+
+-- no content bears on it
+news-head : (l : LogHead) (c c′ : List ℕ) (own highest : ℕ) (ps : List Post) → headOf (withNews (logOn l c) own highest ps) ≡ headOf (withNews (logOn l c′) own highest ps)
+unfolding withNews heldWith
+news-head l c c′ own highest [] = refl
+news-head l c c′ own highest (p ∷ ps) =
+    let place = placeOf (suc highest) in
+    news-head (after l own place p) (sets c (mostContent * place) (p .content)) (sets c′ (mostContent * place) (p .content)) own (suc highest) ps
+
+-- of the n oldest posts the first i have their places in the head
+pub record Heading (first : LogHead) (contents : List ℕ) (own highest : ℕ) (p : Posts) (n : ℕ) (l : LogHead) (i : ℕ) : Type 0 where
   pub within : i ≤ n
-  pub rest : withNews (withHeld first h) own (highest + i) (postsFrom p i (n - i)) ≡ withNews first own highest (postsFrom p 0 n)
+  pub rest : headOf (withNews (logOn l contents) own (highest + i) (postsFrom p i (n - i))) ≡ headOf (withNews (logOn first contents) own highest (postsFrom p 0 n))
 
-module _ (first : Log) (own highest : ℕ) (p : Posts) (n : ℕ) where
-  pub holding-starts : Holding first own highest p n (first .held) 0
-  holding-starts = record { within = omega arith; rest = rw (add-zero, sub-zero) }
+module _ (first : LogHead) (contents : List ℕ) (own highest : ℕ) (p : Posts) (n : ℕ) where
+  pub heading-starts : Heading first contents own highest p n first 0
+  heading-starts = record { within = omega arith; rest = rw (add-zero, sub-zero) }
 
-  module _ (h : Held) (i : ℕ) (so-far : Holding first own highest p n h i) where
-    pub holding-goes : (h′ : Held) → i < n → h′ ≡ heldWith h (placeOf (highest + i + 1)) (sentBy own (postAt p i)) → Holding first own highest p n h′ (i + 1)
-    unfolding withNews postsFrom
-    holding-goes h′ more e =
+  module _ (l : LogHead) (i : ℕ) (so-far : Heading first contents own highest p n l i) where
+    pub heading-goes : i < n
+        → PostsRange p
+        → n ≤ p .count
+        → Heading first contents own highest p n
+        (headWith l (l .level) (l .safe) (l .delivered) (set (l .senders) (placeOf (highest + i + 1)) own) (set (l .services) (placeOf (highest + i + 1)) (getD (p .services) i 0)) (set (l .lengths) (placeOf (highest + i + 1)) (getD (p .lengths) i 0)))
+        (i + 1)
+    unfolding withNews postsFrom heldWith
+    heading-goes more range few =
         let left : n - i ≡ suc (n - (i + 1)) = omega arith in
-        let place : i + 1 ≡ suc i = omega arith in
+        let post : i + 1 ≡ suc i = omega arith in
         let number : highest + i + 1 ≡ suc (highest + i) = omega arith in
         let next : highest + suc i ≡ suc (highest + i) = omega arith in
-        record { within = omega arith; rest = rw (e, number, place, next) (rw (left, place) at (so-far .rest)) }
+        let place = placeOf (suc (highest + i)) in
+        let e = postAt p i in
+        let long : length (e .content) ≡ getD (p .lengths) i 0 = content-long p i range (omega arith) in
+        let same = news-head (after l own place e) (sets contents (mostContent * place) (e .content)) contents own (suc (highest + i)) (postsFrom p (suc i) (n - suc i)) in
+        record { within = omega arith; rest = rw (number, post, next, ← long) (sym same ∙ (rw (left, post) at (so-far .rest))) }
 
-pub holding-ends : (first : Log) (own highest : ℕ) (p : Posts) (n : ℕ) (h : Held) (i : ℕ)
-    → Holding first own highest (postsIn n (p .services) (p .lengths) (p .contents)) n h i
-    → (l : Log)
+pub heading-ends : (first : LogHead) (contents : List ℕ) (own highest : ℕ) (p : Posts) (n : ℕ) (l : LogHead) (i : ℕ)
+    → Heading first contents own highest p n l i
     → n ≤ i
     → n ≤ p .count
-    → l ≡ withHeld first h
-    → l ≡ withNews first own highest (take n (waiting p))
+    → l ≡ headOf (withNews (logOn first contents) own highest (take n (waiting p)))
 unfolding withNews postsFrom
-holding-ends first own highest p n h i so-far l done few e =
+heading-ends first contents own highest p n l i so-far done few =
     let left : n - i ≡ zero = omega arith in
-    e ∙ rw (oldest p n few, ← posts-same p n 0 n) (rw left at (so-far .rest))
+    rw (oldest p n few) (rw left at (so-far .rest))
+
+-- ---- the contents
+
+-- the head has no bearing on them
+news-contents : (l l′ : LogHead) (c : List ℕ) (own highest : ℕ) (ps : List Post)
+    → withNews (logOn l c) own highest ps .held .contents ≡ withNews (logOn l′ c) own highest ps .held .contents
+unfolding withNews heldWith
+news-contents l l′ c own highest [] = refl
+news-contents l l′ c own highest (p ∷ ps) =
+    let place = placeOf (suc highest) in
+    news-contents (after l own place p) (after l′ own place p) (sets c (mostContent * place) (p .content)) own (suc highest) ps
+
+-- of the n oldest posts the contents of the first i stand in their places
+pub record Placing (l : LogHead) (own highest : ℕ) (p : Posts) (n : ℕ) (before contents : List ℕ) (i : ℕ) : Type 0 where
+  pub within : i ≤ n
+  pub rest : withNews (logOn l contents) own (highest + i) (postsFrom p i (n - i)) .held .contents
+      ≡ withNews (logOn l before) own highest (postsFrom p 0 n) .held .contents
+
+module _ (l : LogHead) (own highest : ℕ) (p : Posts) (n : ℕ) (before : List ℕ) where
+  pub placing-starts : Placing l own highest p n before before 0
+  placing-starts = record { within = omega arith; rest = rw (add-zero, sub-zero) }
+
+  module _ (contents : List ℕ) (i : ℕ) (so-far : Placing l own highest p n before contents i) where
+    pub placing-goes : (contents′ : List ℕ)
+        → i < n
+        → contents′ ≡ sets contents (mostContent * placeOf (highest + i + 1)) (postAt p i .content)
+        → Placing l own highest p n before contents′ (i + 1)
+    unfolding withNews postsFrom heldWith
+    placing-goes contents′ more e =
+        let left : n - i ≡ suc (n - (i + 1)) = omega arith in
+        let post : i + 1 ≡ suc i = omega arith in
+        let number : highest + i + 1 ≡ suc (highest + i) = omega arith in
+        let next : highest + suc i ≡ suc (highest + i) = omega arith in
+        let place = placeOf (suc (highest + i)) in
+        let x = postAt p i in
+        let same = news-contents l (after l own place x) (sets contents (mostContent * place) (x .content)) own (suc (highest + i)) (postsFrom p (suc i) (n - suc i)) in
+        record { within = omega arith; rest = rw (e, number, post, next) (same ∙ (rw (left, post) at (so-far .rest))) }
+
+pub placing-ends : (l : LogHead) (own highest : ℕ) (p : Posts) (n : ℕ) (before contents : List ℕ) (i : ℕ)
+    → Placing l own highest (postsIn n (p .services) (p .lengths) (p .contents)) n before contents i
+    → n ≤ i
+    → n ≤ p .count
+    → contents ≡ withNews (logOn l before) own highest (take n (waiting p)) .held .contents
+unfolding withNews postsFrom
+placing-ends l own highest p n before contents i so-far done few =
+    let left : n - i ≡ zero = omega arith in
+    rw (oldest p n few, ← posts-same p n 0 n) (rw left at (so-far .rest))

@@ -1,55 +1,64 @@
--- Step 9 as the code makes it, and the visit whole.
-use Prim.Native.Nat.{ℕ, _+_, _-_, _≤_}
+-- The visit whole, as the code makes it: what is sent behind the repeats, and step 9.
+use Prim.Native.Nat.{ℕ, _+_, _*_, _-_, _<_, _≤_}
 use mathlib.Core.Path.{_≡_, refl, sym, ap, _∙_}
 use mathlib.Core.Bool.{true}
-use mathlib.Core.List.{List}
+use mathlib.Core.List.{List, _++_, map, append-assoc}
 use native.Mathlib.Nat.{zero-add}
 use native.Mathlib.Omega.{arith}
-use lib.ListN.{length, length-append}
+use lib.ListN.{length, take, length-append}
 use lib.Seq.{sets, length-sets, take-at}
 use Rattle.words.proofs.StoreLaws.{sets-append, front-stored}
 use Rattle.frames.specs.Number.{mostNumber}
-use Rattle.frames.specs.Layout.{longestToken}
+use Rattle.frames.specs.Layout.{longestMessage, longestToken}
 use Rattle.frames.specs.Token.{tokenBytes}
 use Rattle.frames.specs.Header.{headerFollows}
 use Rattle.record.specs.Size.{mostPosts}
-use Rattle.record.specs.Held.{letGo}
-use Rattle.record.specs.Posts.{taken}
+use Rattle.record.specs.Head.{logOn, headOf}
+use Rattle.record.specs.Held.{holds, letGo}
+use Rattle.record.specs.Posts.{waiting, taken}
 use Rattle.record.specs.Turn.{remembered}
+use Rattle.record.specs.Whole.{postsInRange}
+use Rattle.record.specs.declared.head.LogHead.{LogHead}
 use Rattle.record.specs.declared.log.Log.{Log}
 use Rattle.record.specs.declared.posts.Posts.{Posts}
+use Rattle.record.specs.declared.turn.Turn.{Turn}
+use Rattle.record.specs.declared.Record.{Record}
 use Rattle.record.proofs.RangeFacts.{posts-range}
 use Rattle.record.proofs.WholeFacts.{LogGood}
-use Rattle.station.specs.Reply.{doneOf, followedBy, mostFrames, mostDeliveries}
-use Rattle.station.specs.Deliver.{ringHeader, joined, handedOut, delivered}
-use Rattle.station.specs.Visit.{Visit, log, own, posts, logNow, safe′, token′, turn′, log′, rec′, deaf, written, accepted}
+use Rattle.station.specs.Reply.{followedBy, mostFrames, mostDeliveries}
+use Rattle.station.specs.Level.{raised}
+use Rattle.station.specs.Deliver.{ringHeader, frameOf, joined, handedOut, delivered}
+use Rattle.station.specs.Visit.{Visit, log, own, posts, withNews, numbersAfter, news, newCount, logNow, highest′, broadcasts, safe′, token′, turn′, log′, rec′, deaf, written, accepted}
 use Rattle.station.specs.EveryArrival.{Acceptable}
-use Rattle.station.specs.Steps.{sentFrames, sentOf, forwardedOf}
+use Rattle.station.specs.Steps.{repeatFrames, newFrames, sentFrames, sentOf, forwardedOf}
 use Rattle.station.specs.declared.answer.Answer.the-variants.{Accepted}
 use Rattle.station.specs.declared.broadcasting.Sent.{Sent}
 use Rattle.station.specs.declared.forwarding.Forwarded.{Forwarded}
-use Rattle.station.specs.declared.delivering.Handed.{Handed}
 use Rattle.station.proofs.RingFacts.{ring-header}
-use Rattle.station.proofs.FrameLaws.{Writable, handed-fits}
+use Rattle.station.proofs.FrameLaws.{Writable, handed-fits, joined-join}
 use Rattle.station.proofs.TokenLaws.{token-short}
-use Rattle.station.proofs.VisitFacts.{facts, new-posts, now-good, now-safe, now-ring}
-use Rattle.station.proofs.VisitReads.{sent-short, written-is, written-fits}
+use Rattle.station.proofs.VisitFacts.{facts, token-good, new-posts, new-numbers, now-good, now-new, now-safe, now-ring}
+use Rattle.station.proofs.VisitReads.{repeats-short, sent-short, written-is, written-fits}
 use Rattle.station.proofs.Forward.{sent-log, sent-news, safe-most}
 
 module _ (v : Visit) (a : Acceptable v) where
   writable : Writable (logNow v)
   writable = record { log = now-good v a; header = rw (now-ring v a) (ring-header (v .rec) (facts v a)) }
 
-  frames-size : length (joined (written v)) ≡ length (joined (sentFrames v)) + length (tokenBytes (token′ v))
-  frames-size = ap length (written-is v a) ∙ length-append (joined (sentFrames v)) (tokenBytes (token′ v))
+  sent-both : joined (sentFrames v) ≡ joined (repeatFrames v) ++ joined (newFrames v)
+  sent-both = joined-join (repeatFrames v) (newFrames v)
+
+  -- all that is written: repeats, and behind them new messages and the token
+  all-three : joined (written v) ≡ joined (repeatFrames v) ++ (joined (newFrames v) ++ tokenBytes (token′ v))
+  all-three = written-is v a ∙ rw sent-both (append-assoc (joined (repeatFrames v)) (joined (newFrames v)) (tokenBytes (token′ v)))
+
+  three-size : length (joined (written v)) ≡ length (joined (repeatFrames v)) + length (joined (newFrames v)) + length (tokenBytes (token′ v))
+  three-size = rw (all-three, length-append (joined (repeatFrames v)) (joined (newFrames v) ++ tokenBytes (token′ v)), length-append (joined (newFrames v)) (tokenBytes (token′ v))) (omega arith)
 
   module _ (b : Sent) (sends : b ≡ sentOf v) where
-    sent-size : b .size ≡ length (joined (sentFrames v))
+    sent-size : b .size ≡ length (joined (repeatFrames v))
     unfolding sentOf
     sent-size = ap (λ (x : Sent). x .size) sends
-
-    pub hand-ready : LogGood (b .log) × (headerFollows (ringHeader (b .log)) ≡ true)
-    hand-ready = rw (sent-log v a b sends) (writable .log, writable .header)
 
     pub take-ready : (b .news ≤ posts v .count) × (posts v .count ≤ mostPosts)
     take-ready = (omega (arith, sent-news v a b sends, new-posts v), posts-range (posts v) (facts v a .posts) .count)
@@ -57,84 +66,127 @@ module _ (v : Visit) (a : Acceptable v) where
     pub news-fit : b .news ≤ 16
     news-fit = omega (arith, take-ready)
 
-    module _ (f : Forwarded) (forwards : f ≡ forwardedOf v) where
+    -- ---- the new messages' contents move
+
+    pub place-ready : (postsInRange (posts v) ≡ true) × (b .news ≤ posts v .count) × (v .token .highest .0 + b .news ≤ mostNumber)
+    place-ready = (facts v a .posts, take-ready .0, omega (arith, sent-news v a b sends, new-numbers v, token-good v a .highest))
+
+    pub placed : (contents : List ℕ)
+        → ((l : LogHead) (own : ℕ) → contents ≡ withNews (logOn l (log v .held .contents)) own (v .token .highest .0) (take (b .news) (waiting (posts v))) .held .contents)
+        → logOn (b .log) contents ≡ logNow v
+    unfolding logNow raised
+    placed contents e = rw (sent-log v a b sends, e (headOf (log v)) (own v), sent-news v a b sends)
+
+    -- ---- their frames
+
+    module _ (contents : List ℕ) (now-is : logOn (b .log) contents ≡ logNow v) where
+      pub run-ready : (long : ℕ)
+          → mostFrames ≤ long
+          → LogGood (logOn (b .log) contents)
+          × (headerFollows (ringHeader (logOn (b .log) contents)) ≡ true)
+          × ((k : ℕ) → v .token .highest .0 < k → k ≤ v .token .highest .0 + b .news → holds (logOn (b .log) contents) k ≡ true)
+          × (v .token .highest .0 + b .news ≤ mostNumber)
+          × (b .size + longestMessage * b .news ≤ long)
+      unfolding highest′
+      run-ready long enough =
+          rw now-is (
+            writable .log,
+            writable .header,
+            λ k low high. now-new v a k low (omega (arith, sent-news v a b sends)),
+            place-ready .2,
+            omega (arith, sent-size, sent-news v a b sends, repeats-short v a),
+          )
+
+      module _ (at : ℕ) (out out′ : List ℕ)
+          (puts : (at ≡ b .size + length (joined (map (frameOf (logOn (b .log) contents)) (numbersAfter (v .token .highest .0) (b .news)))))
+          × (out′ ≡ sets out (b .size) (joined (map (frameOf (logOn (b .log) contents)) (numbersAfter (v .token .highest .0) (b .news)))))) where
+        new-put : (at ≡ b .size + length (joined (newFrames v))) × (out′ ≡ sets out (b .size) (joined (newFrames v)))
+        unfolding news
+        new-put = rw (now-is, sent-news v a b sends) at puts
+
+        pub token-room : mostFrames ≤ length out → at + longestToken ≤ length out′
+        token-room enough =
+            let same : length out′ ≡ length out = rw (new-put .1) (length-sets out (b .size) (joined (newFrames v))) in
+            omega (arith, new-put .0, sent-size, same, ap length sent-both, length-append (joined (repeatFrames v)) (joined (newFrames v)), sent-short v a)
+
+        -- ---- the token behind them
+
+        module _ (f : Forwarded) (forwards : f ≡ forwardedOf v) where
+          forward-turn : f .turn ≡ turn′ v
+          unfolding forwardedOf
+          forward-turn = ap (λ (x : Forwarded). x .turn) forwards
+
+          turn-size : f .turn .size ≡ length (tokenBytes (token′ v))
+          unfolding turn′
+          turn-size = rw forward-turn
+
+          turn-token : remembered (f .turn) ≡ tokenBytes (token′ v)
+          unfolding turn′
+          turn-token = rw forward-turn (take-at (tokenBytes (token′ v)) _ (length (tokenBytes (token′ v))) refl)
+
+          pub token-fits : f .turn .size ≤ longestToken
+          token-fits = omega (arith, turn-size, token-short v a)
+
+          pub remembered-room : mostFrames ≤ length out → at + length (remembered (f .turn)) ≤ length out′
+          remembered-room enough = omega (arith, token-room enough, ap length turn-token, token-short v a)
+
+          pub all-size : at + f .turn .size ≡ length (joined (written v))
+          all-size = omega (arith, new-put .0, sent-size, turn-size, three-size)
+
+          pub all-behind : (out″ : List ℕ) → out″ ≡ sets out′ at (remembered (f .turn)) → out″ ≡ sets out (b .size) (joined (newFrames v) ++ tokenBytes (token′ v))
+          all-behind out″ e = e ∙ rw (new-put .1, new-put .0, turn-token) (sym (sets-append (joined (newFrames v)) (tokenBytes (token′ v)) out (b .size)))
+
+    -- ---- all of it in the buffer
+
+    pub all-written : (out out′ out″ : List ℕ)
+        → mostFrames ≤ length out
+        → out′ ≡ sets out 0 (joined (repeatFrames v))
+        → out″ ≡ sets out′ (b .size) (joined (newFrames v) ++ tokenBytes (token′ v))
+        → out″ ≡ followedBy (accepted v .frames) out
+    unfolding accepted
+    all-written out out′ out″ room first second =
+        let bytes = joined (written v) in
+        let rest = joined (newFrames v) ++ tokenBytes (token′ v) in
+        let stored : out″ ≡ sets out 0 bytes = second ∙ rw (first, sent-size, all-three) (sym (rw zero-add at (sets-append (joined (repeatFrames v)) rest out 0))) in
+        stored ∙ front-stored (length bytes) bytes out refl (omega (arith, written-fits v a))
+
+    -- ---- step 9
+
+    module _ (f : Forwarded) (forwards : f ≡ forwardedOf v) (l : Log) (now-is : l ≡ logNow v) where
       forward-safe : f .safe .0 ≡ safe′ v
       unfolding forwardedOf
       forward-safe = ap (λ (x : Forwarded). x .safe .0) forwards
-
-      forward-turn : f .turn ≡ turn′ v
-      unfolding forwardedOf
-      forward-turn = ap (λ (x : Forwarded). x .turn) forwards
 
       forward-deaf : f .deaf ≡ deaf v
       unfolding forwardedOf
       forward-deaf = ap (λ (x : Forwarded). x .deaf) forwards
 
-      turn-size : f .turn .size ≡ length (tokenBytes (token′ v))
-      unfolding turn′
-      turn-size = rw forward-turn
+      the-turn : f .turn ≡ turn′ v
+      unfolding forwardedOf
+      the-turn = ap (λ (x : Forwarded). x .turn) forwards
 
-      turn-token : remembered (f .turn) ≡ tokenBytes (token′ v)
-      unfolding turn′
-      turn-token = rw forward-turn (take-at (tokenBytes (token′ v)) _ (length (tokenBytes (token′ v))) refl)
+      pub leave-ready : LogGood l × (headerFollows (ringHeader l) ≡ true) × (l .safe .0 ≤ f .safe .0) × (f .safe .0 ≤ mostNumber) × (b .news ≤ posts v .count) × (posts v .count ≤ mostPosts)
+      unfolding safe′
+      leave-ready =
+          let same : l .safe .0 ≡ log v .safe .0 = rw (now-is, now-safe v a) in
+          (rw now-is (writable .log), rw now-is (writable .header), omega (arith, forward-safe), omega (arith, forward-safe, safe-most v a), take-ready .0, take-ready .1)
 
-      pub token-fits : f .turn .size ≤ longestToken
-      token-fits = omega (arith, turn-size, token-short v a)
+      pub told-fits : (n : ℕ) → n ≡ length (handedOut l (f .safe .0)) → n ≤ mostDeliveries
+      told-fits n e = omega (arith, rw now-is at e, handed-fits (logNow v) writable (f .safe .0))
 
-      pub frames-fit : b .size + f .turn .size ≤ mostFrames
-      frames-fit = omega (arith, sent-size, turn-size, frames-size, written-fits v a)
+      pub left : (written-size told-size : ℕ)
+          → written-size ≡ length (joined (written v))
+          → told-size ≡ length (handedOut l (f .safe .0))
+          → Accepted written-size told-size (f .deaf) ≡ accepted v .answer
+      unfolding accepted
+      left written-size told-size e g = rw (e, g, now-is, forward-safe, forward-deaf)
 
-      -- ---- step 9
+      pub left-record : (p : Posts)
+          → p ≡ posts v
+          → _≡_ {A = Record} (record { own = own v; log = letGo (delivered l (f .safe .0)) (f .safe .0); turn = f .turn; posts = taken p (b .news) }) (accepted v .rec)
+      unfolding accepted rec′ log′
+      left-record p e = rw (now-is, forward-safe, the-turn, e, sent-news v a b sends)
 
-      module _ (h : Handed) (hands : h ≡ record { log = delivered (b .log) (f .safe .0); size = length (handedOut (b .log) (f .safe .0)) }) where
-        handed-log : h .log ≡ delivered (logNow v) (safe′ v)
-        handed-log = ap (λ (x : Handed). x .log) hands ∙ rw (sent-log v a b sends, forward-safe)
-
-        handed-size : h .size ≡ length (handedOut (logNow v) (safe′ v))
-        handed-size = ap (λ (x : Handed). x .size) hands ∙ rw (sent-log v a b sends, forward-safe)
-
-        pub deliveries-fit : h .size ≤ mostDeliveries
-        deliveries-fit = omega (arith, handed-size, handed-fits (logNow v) writable (safe′ v))
-
-        pub go-ready : (h .log .safe .0 ≤ f .safe .0) × (f .safe .0 ≤ mostNumber)
-        unfolding delivered safe′
-        go-ready =
-            let same : h .log .safe .0 ≡ log v .safe .0 = rw (handed-log, now-safe v a) in
-            (omega (arith, forward-safe), omega (arith, forward-safe, safe-most v a))
-
-        pub left : (l : Log) (p : Posts)
-            → l ≡ letGo (h .log) (f .safe .0)
-            → p ≡ taken (posts v) (b .news)
-            → record {
-              answer = Accepted (b .size + f .turn .size) (h .size) (f .deaf);
-              rec = record { own = own v; log = l; turn = f .turn; posts = p };
-            }
-            ≡ doneOf (accepted v)
-        unfolding accepted rec′ log′
-        left l p e g =
-            let total : b .size + f .turn .size ≡ length (joined (written v)) = omega (arith, sent-size, turn-size, frames-size) in
-            rw (total, handed-size, forward-deaf, e, handed-log, forward-safe, forward-turn, g, sent-news v a b sends)
-
-        pub told : (out out′ : List ℕ)
-            → out′ ≡ followedBy (handedOut (b .log) (f .safe .0)) out
-            → out′ ≡ followedBy (handedOut (logNow v) (safe′ v)) out
-        told out out′ e = e ∙ rw (sent-log v a b sends, forward-safe)
-
-      -- ---- the token behind what was sent
-
-      module _ (out out′ : List ℕ) (room : mostFrames ≤ length out) (puts : out′ ≡ sets out 0 (joined (sentFrames v))) where
-        same-length : length out′ ≡ length out
-        same-length = ap length puts ∙ simp length-sets
-
-        pub token-room : b .size + longestToken ≤ length out′
-        token-room = omega (arith, sent-size, same-length, sent-short v a)
-
-        pub remembered-room : b .size + length (remembered (f .turn)) ≤ length out′
-        remembered-room = omega (arith, token-room, ap length turn-token, token-short v a)
-
-        pub all-written : (out″ : List ℕ) → out″ ≡ sets out′ (b .size) (remembered (f .turn)) → out″ ≡ followedBy (accepted v .frames) out
-        unfolding accepted
-        all-written out″ e =
-            let bytes = joined (written v) in
-            let stored : out″ ≡ sets out 0 bytes = e ∙ rw (puts, sent-size, turn-token, written-is v a) (sym (rw zero-add at (sets-append (joined (sentFrames v)) (tokenBytes (token′ v)) out 0))) in
-            stored ∙ front-stored (length bytes) bytes out refl (omega (arith, written-fits v a))
+      pub told : (out out′ : List ℕ) → out′ ≡ followedBy (handedOut l (f .safe .0)) out → out′ ≡ followedBy (accepted v .deliveries) out
+      unfolding accepted
+      told out out′ e = e ∙ rw (now-is, forward-safe)

@@ -37,3 +37,5 @@ pub mod MessageWhole
 pub mod NewsWhole
 pub mod VisitWhole
 pub mod ArrivedGood
+pub mod LeftLaws
+pub mod ByValue

@@ -29,6 +29,9 @@ use Rattle.station.proofs.FrameLaws.{Writable, held-follows}
 
 -- ---- bytes put into the rest of a buffer, from `at` on
 
+pub rest-long : (out : List ℕ) (at : ℕ) → length (take (length out - at) (drop at out)) ≡ length out - at
+rest-long out at = rw (take-all (length out - at) (drop at out) (omega (arith, length-drop at out))) (length-drop at out)
+
 module _ (bytes out rest′ : List ℕ) (at : ℕ) (room : at + length bytes ≤ length out) where
   left : length (drop at out) ≡ length out - at
   left = length-drop at out

@@ -87,6 +87,11 @@ module _ (v : Visit) (a : Acceptable v) where
   unfolding news
   news-length = after-length (v .token .highest .0) (newCount v)
 
+  -- the repeats leave room for the new messages
+  pub repeats-short : length (joined (map (frameOf (log v)) (repeats v))) + longestMessage * newCount v ≤ mostBroadcasts * longestMessage
+  unfolding broadcasts
+  repeats-short = omega (arith, frames-short (log v) before-writable (repeats v) repeats-held, few-broadcasts v a)
+
   -- repeats and new messages
   pub sent-short : length (joined (sentFrames v)) ≤ mostBroadcasts * longestMessage
   unfolding broadcasts

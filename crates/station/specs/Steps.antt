@@ -1,6 +1,6 @@
 -- What arrival's code hands from one step to the next, in the terms of Message.antt and Visit.antt. Nothing new is said here: each field
 -- is a quantity of theirs, and each condition follows from theirs.
-use Prim.Native.Nat.{ℕ, _-_, _≤_}
+use Prim.Native.Nat.{ℕ, _+_, _-_, _≤_}
 use mathlib.Core.Path.{_≡_}
 use mathlib.Core.Bool.{true, _||_, cond}
 use mathlib.Core.List.{List, _++_, map}
@@ -14,16 +14,28 @@ use Rattle.frames.specs.declared.number.MessageNumber.{MessageNumber}
 use Rattle.frames.specs.declared.token.Blocker.{Blocker}
 use Rattle.frames.specs.declared.token.Blocker.the-variants.{Nobody, Member}
 use Rattle.record.specs.Size.{heldContents}
+use Rattle.record.specs.Bytes.{recordBytes}
+use Rattle.record.specs.Head.{headWith, headOf, recordIn}
 use Rattle.record.specs.Held.{placeOf, entryAt}
+use Rattle.record.specs.Layout.{recordSize}
+use Rattle.record.specs.Whole.{whole}
+use Rattle.record.specs.declared.head.LogHead.{LogHead}
+use Rattle.record.specs.declared.head.Head.{Head}
 use Rattle.record.specs.declared.log.Held.{Held}
 use Rattle.record.specs.declared.log.Log.{Log}
 use Rattle.station.specs.Deliver.{ringHeader, entryOf, frameOf, joined}
-use Rattle.station.specs.Message.{entryIn}
+use Rattle.station.specs.Message.{entryIn, leaveEnded}
 use Rattle.station.specs.Visit.{Visit, log, unanswered, repeats, newCount, news, logNow, ownOrNobody, aru′, blocker′, safe′, deaf, broadcasts, turn′}
 use Rattle.station.specs.declared.requests.Requests.{Requests}
 use Rattle.station.specs.declared.broadcasting.Sent.{Sent}
 use Rattle.station.specs.declared.marks.Reach.{Reach}
 use Rattle.station.specs.declared.forwarding.Forwarded.{Forwarded}
+
+-- ---- a whole record where it is lent, and its head
+pub record HeadIn (h : Head) (s : List ℕ) : Type 0 where
+  pub whole-record : whole (recordIn h s) ≡ true
+  pub bytes : s ≡ recordBytes (recordIn h s)
+  pub size : length s ≡ recordSize
 
 -- ---- a held message's frame, from the arrays that hold it
 
@@ -45,6 +57,14 @@ pub record JustKept (l : Log) (m : Message) (content : List ℕ) : Type 0 where
   pub entry : entryOf l (m .number .0) ≡ entryIn m content
   pub follows : messageFollows m content ≡ true
 
+-- so many are delivered
+abbrev pub headDelivered : LogHead → ℕ → LogHead
+headDelivered l n = headWith l (l .level) (l .safe) (record { 0 = l .delivered .0 + n }) (l .senders) (l .services) (l .lengths)
+
+-- its delivery over: the log's new head, and the leave to resend has ended
+abbrev pub headTold : Head → LogHead → Head
+headTold h log = record { own = h .own; log = log; turn = leaveEnded (h .turn); posts = h .posts }
+
 -- ---- a list of numbers in a token's places, zero past them
 unfoldable pub listed : List ℕ → Requests
 listed xs = record { count = length xs; numbers = xs ++ replicate (mostRequests - length xs) 0 }
@@ -53,19 +73,26 @@ listed xs = record { count = length xs; numbers = xs ++ replicate (mostRequests 
 abbrev pub listIn : Requests → List ℕ
 listIn r = take (r .count) (r .numbers)
 
--- steps 2 and 3, written out: repeats, new messages
-abbrev pub sentFrames : Visit → List (List ℕ)
-sentFrames v = map (frameOf (log v)) (repeats v) ++ map (frameOf (logNow v)) (news v)
+-- step 2, written out
+abbrev pub repeatFrames : Visit → List (List ℕ)
+repeatFrames v = map (frameOf (log v)) (repeats v)
 
--- after step 3
+-- step 3, written out
+abbrev pub newFrames : Visit → List (List ℕ)
+newFrames v = map (frameOf (logNow v)) (news v)
+
+abbrev pub sentFrames : Visit → List (List ℕ)
+sentFrames v = repeatFrames v ++ newFrames v
+
+-- after step 3, the contents of the new messages still to be moved
 unfoldable pub sentOf : Visit → Sent
 sentOf v =
     record {
-      log = logNow v;
+      log = headOf (logNow v);
       rest = listed (unanswered v);
       news = newCount v;
       count = broadcasts v;
-      size = length (joined (sentFrames v));
+      size = length (joined (repeatFrames v));
     }
 
 -- step 4, from the level, the highest number, and the token's aru and blocker

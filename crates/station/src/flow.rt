@@ -4,10 +4,11 @@ ghost use Prim.Native.Nat.{_+_, _-_, _≤_, min};
 ghost use lib.ListN.{length};
 ghost use Rattle.frames.specs.Number.{mostNumber};
 ghost use Rattle.frames.specs.Layout.{mostRound};
+ghost use Rattle.record.specs.Head.{recordIn};
 ghost use Rattle.station.specs.Visit.{mostNew, mostInRound, repeats as Visit·repeats, newCount};
 ghost use Rattle.station.specs.EveryArrival.{visit};
 use frames::Token;
-use record::Record;
+use record::Head;
 
 // New messages of one visit. The paper's max_messages.
 const MOST_NEW: u32 = 8;
@@ -43,17 +44,18 @@ fn allowance(others: u32) -> u32
 }
 
 // 3. How many new messages. Ruled out: the posts alone decide; the repeats don't count.
-pub fn new_count(rec: Record, t: Token, repeats: u32) -> u32
-    requires { ⌜ (repeats ≡ length (Visit·repeats (visit rec t))) × (rec .log .safe .0 ≤ mostNumber) ⌝ }
-    ensures { λ r. ⌜ r ≡ newCount (visit rec t) ⌝ }
+pub fn new_count(h: Head, s: &[u8], t: Token, repeats: u32) -> u32
+    requires { ⌜
+        (repeats ≡ length (Visit·repeats (visit (recordIn h (now s)) t))) × (h .log .safe .0 ≤ mostNumber) ⌝ }
+    ensures { λ r. ⌜ r ≡ newCount (visit (recordIn h (now (s .entry))) t) ⌝ }
 {
     let highest = t.highest.0;
-    let allowed = less(allowance(others(t.round, rec.turn.broadcast)), repeats);
-    let window = less(rec.log.safe.0 + record::MOST_HELD as u32, highest);
+    let allowed = less(allowance(others(t.round, h.turn.broadcast)), repeats);
+    let window = less(h.log.safe.0 + record::MOST_HELD as u32, highest);
     let numbers = less(frames::MOST_NUMBER, highest);
     smaller(
         allowed,
-        smaller(rec.posts.count as u32, smaller(window, numbers)),
+        smaller(h.posts.count as u32, smaller(window, numbers)),
     )
 }
 

@@ -1,5 +1,6 @@
 // Steps 4 to 8 of a visit: the token that is forwarded and remembered.
 ghost use mathlib.Core.Path.{_≡_};
+ghost use Rattle.record.specs.Head.{recordIn};
 ghost use Rattle.station.specs.Visit.{requests′, safe′, stall′, token′, turn′};
 ghost use Rattle.station.specs.EveryArrival.{Acceptable, visit};
 ghost use Rattle.station.specs.Steps.{listed, sentOf, reachOf, forwardedOf};
@@ -14,7 +15,7 @@ use crate::requests::Requests;
 use frames::MessageNumber;
 use frames::Token;
 use frames::TokenNumber;
-use record::Record;
+use record::Head;
 use record::Turn;
 
 // What the station keeps until the token's next visit, the token in it; the new safe mark; the id in the
@@ -26,10 +27,10 @@ pub struct Forwarded {
 }
 
 // 7. The requests.
-fn requests_after(rec: Record, t: Token, b: Sent, safe: MessageNumber) -> Requests
+fn requests_after(h: Head, s: &[u8], t: Token, b: Sent, safe: MessageNumber) -> Requests
     requires { ⌜
-        Acceptable (visit rec t) × (b ≡ sentOf (visit rec t)) × (safe .0 ≡ safe′ (visit rec t)) ⌝ }
-    ensures { λ r. ⌜ r ≡ listed (requests′ (visit rec t)) ⌝ }
+        Acceptable (visit (recordIn h (now s)) t) × (b ≡ sentOf (visit (recordIn h (now s)) t)) × (safe .0 ≡ safe′ (visit (recordIn h (now s)) t)) ⌝ }
+    ensures { λ r. ⌜ r ≡ listed (requests′ (visit (recordIn h (now (s .entry))) t)) ⌝ }
 {
     let highest = t.highest.0 + b.news;
     let window = safe.0 + record::MOST_HELD as u32;
@@ -38,45 +39,45 @@ fn requests_after(rec: Record, t: Token, b: Sent, safe: MessageNumber) -> Reques
 }
 
 // 8. The token.
-fn token_after(rec: Record, t: Token, b: Sent, reach: Reach, requests: Requests) -> Token
+fn token_after(h: Head, s: &[u8], t: Token, b: Sent, reach: Reach, requests: Requests) -> Token
     requires { ⌜
-        Acceptable (visit rec t)
-        × (b ≡ sentOf (visit rec t))
-        × (reach ≡ reachOf (visit rec t))
-        × (requests ≡ listed (requests′ (visit rec t))) ⌝ }
-    ensures { λ r. ⌜ r ≡ token′ (visit rec t) ⌝ }
+        Acceptable (visit (recordIn h (now s)) t)
+        × (b ≡ sentOf (visit (recordIn h (now s)) t))
+        × (reach ≡ reachOf (visit (recordIn h (now s)) t))
+        × (requests ≡ listed (requests′ (visit (recordIn h (now s)) t))) ⌝ }
+    ensures { λ r. ⌜ r ≡ token′ (visit (recordIn h (now (s .entry))) t) ⌝ }
 {
-    let members = rec.log.members;
-    let n = rec.log.count as usize;
+    let members = h.log.members;
+    let n = h.log.count as usize;
     let aru = reach.aru;
     let blocker = reach.blocker;
     let numbers = requests.numbers;
     Token {
-        header: held_frames::ring_header(rec.log),
-        addressee: circulation::next_member(&members[0..n], rec.own),
+        header: held_frames::ring_header(h.log),
+        addressee: circulation::next_member(&members[0..n], h.own),
         number: TokenNumber(t.number.0 + 1),
         highest: MessageNumber(t.highest.0 + b.news),
         aru,
         blocker,
-        round: flow::round_after(flow::others(t.round, rec.turn.broadcast), b.count),
+        round: flow::round_after(flow::others(t.round, h.turn.broadcast), b.count),
         count: requests.count,
         requests: numbers,
     }
 }
 
 // 8. The token is remembered, and may be resent.
-fn turn_after(rec: Record, t: Token, token: Token, broadcasts: u32, stall: u8) -> Turn
+fn turn_after(h: Head, s: &[u8], t: Token, token: Token, broadcasts: u32, stall: u8) -> Turn
     requires { ⌜
-        Acceptable (visit rec t)
-        × (token ≡ token′ (visit rec t))
-        × (broadcasts ≡ sentOf (visit rec t) .count)
-        × (stall ≡ stall′ (visit rec t)) ⌝ }
-    ensures { λ r. ⌜ r ≡ turn′ (visit rec t) ⌝ }
+        Acceptable (visit (recordIn h (now s)) t)
+        × (token ≡ token′ (visit (recordIn h (now s)) t))
+        × (broadcasts ≡ sentOf (visit (recordIn h (now s)) t) .count)
+        × (stall ≡ stall′ (visit (recordIn h (now s)) t)) ⌝ }
+    ensures { λ r. ⌜ r ≡ turn′ (visit (recordIn h (now (s .entry))) t) ⌝ }
 {
     let mut bytes = [0u8; frames::LONGEST_TOKEN];
-    frames::write_token(token, &mut bytes);
+    frames::put_token(token, &mut bytes);
     let aru = token.aru;
-    let earlier = rec.turn.aru;
+    let earlier = h.turn.aru;
     let number = token.number;
     Turn {
         aru,
@@ -90,22 +91,22 @@ fn turn_after(rec: Record, t: Token, token: Token, broadcasts: u32, stall: u8) -
 }
 
 // Ruled out: the token passed along untouched; a round count that leaves the own broadcasts out.
-pub fn forward(rec: Record, t: Token, b: Sent) -> Forwarded
-    requires { ⌜ Acceptable (visit rec t) × (b ≡ sentOf (visit rec t)) ⌝ }
-    ensures { λ r. ⌜ r ≡ forwardedOf (visit rec t) ⌝ }
+pub fn forward(h: Head, s: &[u8], t: Token, b: Sent) -> Forwarded
+    requires { ⌜ Acceptable (visit (recordIn h (now s)) t) × (b ≡ sentOf (visit (recordIn h (now s)) t)) ⌝ }
+    ensures { λ r. ⌜ r ≡ forwardedOf (visit (recordIn h (now (s .entry))) t) ⌝ }
 {
     let highest = MessageNumber(t.highest.0 + b.news);
     let before = t.blocker;
-    let reach = marks::reach_after(rec.own, b.log.level, highest, t.aru, before);
+    let reach = marks::reach_after(h.own, b.log.level, highest, t.aru, before);
     let blocker = reach.blocker;
-    let stall = marks::stall_after(rec.turn, reach.aru, blocker);
-    let safe = marks::safe_after(rec.log.safe, rec.turn.aru, reach.aru);
-    let requests = requests_after(rec, t, b, safe);
-    let token = token_after(rec, t, b, reach, requests);
-    let turn = turn_after(rec, t, token, b.count, stall);
+    let stall = marks::stall_after(h.turn, reach.aru, blocker);
+    let safe = marks::safe_after(h.log.safe, h.turn.aru, reach.aru);
+    let requests = requests_after(h, s, t, b, safe);
+    let token = token_after(h, s, t, b, reach, requests);
+    let turn = turn_after(h, s, t, token, b.count, stall);
     Forwarded {
         turn,
         safe,
-        deaf: marks::deaf_after(rec.own, stall, blocker),
+        deaf: marks::deaf_after(h.own, stall, blocker),
     }
 }

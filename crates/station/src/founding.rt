@@ -49,7 +49,7 @@ fn put_first_token(ids: &[u16], own: u16, ring: RingNumber, token: &mut [u8])
         now (token .exit) ≡ followedBy (tokenBytes (firstToken (now (ids .entry)) (ring .0))) (now (token .entry)) ⌝ }
 {
     let t = first_token(ids, ring);
-    frames::write_token(t, token);
+    frames::put_token(t, token);
 }
 
 // 1 and 3 to 6, and the ring's first token where all are answered 'yes'. Ruled out: a token written with a

@@ -1,48 +1,63 @@
 // A message arrives: it is kept, or was had, or is too far ahead. The content is the part of the frame
 // that the reader's `content` gives; it goes on as it is to where it is held and to where it is delivered.
 ghost use mathlib.Core.Path.{_≡_};
-ghost use Prim.Native.Nat.{_≤_};
+ghost use mathlib.Core.List.{List};
+ghost use Prim.Native.Nat.{ℕ, _+_, _≤_};
 ghost use lib.ListN.{length};
 ghost use Rattle.frames.specs.Number.{mostNumber};
 ghost use Rattle.frames.specs.Layout.{mostContent};
+ghost use Rattle.record.specs.Bytes.{recordBytes};
+ghost use Rattle.record.specs.Head.{logOn, recordIn, contentsIn, waitingIn};
 ghost use Rattle.record.specs.Held.{stored};
-ghost use Rattle.station.specs.Reply.{doneOf, followedBy, mostDeliveries};
+ghost use Rattle.record.specs.Layout.{recordSize, logAt, postsAt};
+ghost use Rattle.station.specs.Reply.{followedBy, mostDeliveries};
 ghost use Rattle.station.specs.Level.{raised};
 ghost use Rattle.station.specs.Message.{isHad, isAhead, entryIn, leaveEnded, messageHeard};
 ghost use Rattle.station.specs.EveryArrival.{Hearable};
+ghost use Rattle.station.specs.Steps.{headDelivered, headTold};
 use crate::answer::Answer;
 use crate::delivering;
 use crate::delivering::Handed;
-use crate::done::Done;
 use crate::level;
 use frames::Message;
 use frames::MessageNumber;
-use record::Log;
-use record::Record;
+use record::Head;
+use record::LogHead;
 use record::Turn;
 
 // At or below the safe mark, or already held?
-fn is_had(l: Log, n: MessageNumber) -> bool
+fn is_had(l: LogHead, n: MessageNumber) -> bool
     requires { ⌜ l .safe .0 ≤ mostNumber ⌝ }
-    ensures { λ r. ⌜ r ≡ isHad l (n .0) ⌝ }
+    ensures { λ r. ⌜ ((contents : List ℕ) → r ≡ isHad (logOn l contents) (n .0)) ⌝ }
 {
-    (n.0 <= l.safe.0) | record::is_held(l, n)
+    let senders = l.senders;
+    (n.0 <= l.safe.0) | record::is_held(l.safe, &senders, n)
 }
 
 // Above safe mark + 32?
-fn is_ahead(l: Log, n: MessageNumber) -> bool
+fn is_ahead(l: LogHead, n: MessageNumber) -> bool
     requires { ⌜ l .safe .0 ≤ mostNumber ⌝ }
-    ensures { λ r. ⌜ r ≡ isAhead l (n .0) ⌝ }
+    ensures { λ r. ⌜ ((contents : List ℕ) → r ≡ isAhead (logOn l contents) (n .0)) ⌝ }
 {
     l.safe.0 + (record::MOST_HELD as u32) < n.0
 }
 
 // The message is held, and the level rises.
-fn keep(l: Log, m: Message, content: &[u8]) -> Log
-    requires { ⌜ (l .safe .0 ≤ mostNumber) × (l .level .0 ≤ mostNumber) × (length (now content) ≤ mostContent) ⌝ }
-    ensures { λ r. ⌜ r ≡ raised (stored l (m .number .0) (entryIn m (now (content .entry)))) ⌝ }
+fn keep(l: LogHead, s: &mut [u8], m: Message, content: &[u8]) -> LogHead
+    requires { ⌜
+        (l .safe .0 ≤ mostNumber)
+        × (l .level .0 ≤ mostNumber)
+        × (length (now s) ≡ recordSize)
+        × (length (now content) ≤ mostContent) ⌝ }
+    ensures { λ r. ⌜
+        (logOn r (contentsIn (now (s .exit)) logAt)
+        ≡ raised (stored (logOn l (contentsIn (now (s .entry)) logAt)) (m .number .0) (entryIn m (now (content .entry)))))
+        × (waitingIn (now (s .exit)) postsAt ≡ waitingIn (now (s .entry)) postsAt) ⌝ }
 {
-    level::raise(record::store(l, m.number, m.sender, m.service, content))
+    let stored = record::store_in(l, s, m.number, m.sender, m.service, content);
+    let senders = stored.senders;
+    let level = level::level_of(stored.level, stored.safe, &senders);
+    record::marked(stored, level, stored.safe, stored.delivered)
 }
 
 // Without the leave to resend.
@@ -63,67 +78,58 @@ fn leave_ended(t: Turn) -> Turn
     }
 }
 
-// The record once its log has delivered, and how many bytes it delivered.
-struct Told {
-    rec: Record,
-    size: u16,
-}
-
-fn tell(rec: Record, handed: Handed) -> Told
-    requires { ⌜ handed .size ≤ mostDeliveries ⌝ }
-    ensures { λ r. ⌜ r ≡ record {
-      rec = record { own = rec .own; log = handed .log; turn = leaveEnded (rec .turn); posts = rec .posts };
-      size = handed .size;
-    } ⌝ }
-{
-    let log = handed.log;
-    let turn = leave_ended(rec.turn);
-    let posts = rec.posts;
-    Told {
-        rec: Record {
-            own: rec.own,
-            log,
-            turn,
-            posts,
-        },
-        size: handed.size as u16,
-    }
-}
-
-// A message that passes 2 and 10 to 14. Ruled out: every message 'ahead'; a second copy taken over the
-// first.
-pub fn hear(rec: Record, m: Message, content: &[u8], deliveries: &mut [u8]) -> Done
-    requires { ⌜ Hearable rec m (now content) × (mostDeliveries ≤ length (now deliveries)) ⌝ }
+// The record is stored once this log has delivered; how many bytes it delivered.
+fn tell(h: Head, s: &mut [u8], l: LogHead, handed: Handed) -> u16
+    requires { ⌜
+        (handed .size ≤ mostDeliveries)
+        × (l .delivered .0 + handed .count ≤ mostNumber)
+        × (length (now s) ≡ recordSize) ⌝ }
     ensures { λ r. ⌜
-        (r ≡ doneOf (messageHeard rec m (now (content .entry))))
+        (r ≡ handed .size)
+        × (now (s .exit) ≡ recordBytes (recordIn (headTold h (headDelivered l (handed .count))) (now (s .entry)))) ⌝ }
+{
+    let mark = MessageNumber(l.delivered.0 + handed.count);
+    let mut log = l;
+    log.delivered = mark;
+    let turn = leave_ended(h.turn);
+    let posts = h.posts;
+    let told = Head {
+        own: h.own,
+        log,
+        turn,
+        posts,
+    };
+    record::put_head(s, told);
+    handed.size as u16
+}
+
+// A message that passes 2 and 10 to 14, at a record in these bytes with this head. Ruled out: every message
+// 'ahead'; a second copy taken over the first.
+pub fn hear(h: Head, s: &mut [u8], m: Message, content: &[u8], deliveries: &mut [u8]) -> Answer
+    requires { ⌜
+        Hearable (recordIn h (now s)) m (now content)
+        × (length (now s) ≡ recordSize)
+        × (mostDeliveries ≤ length (now deliveries)) ⌝ }
+    ensures { λ r. ⌜
+        (r ≡ messageHeard (recordIn h (now (s .entry))) m (now (content .entry)) .answer)
+        × (now (s .exit) ≡ recordBytes (messageHeard (recordIn h (now (s .entry))) m (now (content .entry)) .rec))
         × (now (deliveries .exit) ≡ followedBy
-        (messageHeard rec m (now (content .entry)) .deliveries)
+        (messageHeard (recordIn h (now (s .entry))) m (now (content .entry)) .deliveries)
         (now (deliveries .entry))) ⌝ }
 {
-    let l = rec.log;
+    let l = h.log;
     if is_had(l, m.number) {
-        let told = tell(rec, delivering::hand_out(l, l.safe, deliveries));
-        let after = told.rec;
-        return Done {
-            answer: Answer::Had(told.size),
-            rec: after,
-        };
+        let handed = delivering::hand_out(l, record::contents_in(s), l.safe, deliveries);
+        let size = tell(h, s, l, handed);
+        return Answer::Had(size);
     }
     if is_ahead(l, m.number) {
-        let told = tell(rec, delivering::hand_out(l, l.safe, deliveries));
-        let after = told.rec;
-        return Done {
-            answer: Answer::Ahead(told.size),
-            rec: after,
-        };
+        let handed = delivering::hand_out(l, record::contents_in(s), l.safe, deliveries);
+        let size = tell(h, s, l, handed);
+        return Answer::Ahead(size);
     }
-    let told = tell(
-        rec,
-        delivering::hand_out_kept(keep(l, m, content), m, content, deliveries),
-    );
-    let after = told.rec;
-    Done {
-        answer: Answer::Kept(told.size),
-        rec: after,
-    }
+    let kept = keep(l, s, m, content);
+    let handed = delivering::hand_out_kept(kept, record::contents_in(s), m, content, deliveries);
+    let size = tell(h, s, kept, handed);
+    Answer::Kept(size)
 }

@@ -2,7 +2,7 @@
 // what it put.
 ghost use mathlib.Core.Path.{_≡_};
 ghost use mathlib.Core.Bool.{true};
-ghost use mathlib.Core.List.{map};
+ghost use mathlib.Core.List.{List, map};
 ghost use Prim.Native.Nat.{ℕ, _+_, _*_, _≤_, _<_};
 ghost use lib.ListN.{length};
 ghost use lib.Seq.{sets};
@@ -11,6 +11,7 @@ ghost use Rattle.frames.specs.Layout.{longestMessage};
 ghost use Rattle.frames.specs.Header.{headerFollows};
 ghost use Rattle.frames.specs.Message.{messageFollows, messageBytes};
 ghost use Rattle.record.specs.Size.{mostMembers};
+ghost use Rattle.record.specs.Head.{logOn};
 ghost use Rattle.record.specs.Held.{holds, heldOf};
 ghost use Rattle.record.proofs.WholeFacts.{LogGood};
 ghost use Rattle.station.specs.Deliver.{ringHeader, frameOf, joined};
@@ -20,12 +21,12 @@ ghost use Rattle.station.specs.Steps.{heldFrame, Frameable};
 use frames::Header;
 use frames::Message;
 use frames::MessageNumber;
-use record::Log;
+use record::LogHead;
 
 // The header of this ring's frames.
-pub fn ring_header(l: Log) -> Header
+pub fn ring_header(l: LogHead) -> Header
     requires { ⌜ l .count ≤ mostMembers ⌝ }
-    ensures { λ r. ⌜ r ≡ ringHeader l ⌝ }
+    ensures { λ r. ⌜ ((contents : List ℕ) → r ≡ ringHeader (logOn l contents)) ⌝ }
 {
     let members = l.members;
     let n = l.count as usize;
@@ -45,11 +46,11 @@ pub fn put_message(m: Message, content: &[u8], out: &mut [u8], at: usize) -> usi
         (r ≡ at + length (messageBytes m (now (content .entry))))
         × (now (out .exit) ≡ sets (now (out .entry)) at (messageBytes m (now (content .entry)))) ⌝ }
 {
-    frames::write_message(m, content, &mut out[at..]);
+    frames::put_message(m, content, &mut out[at..]);
     at + frames::SHORTEST_MESSAGE + content.len()
 }
 
-// The frame of a number that is held: the log's arrays are lent, so that none is copied for it.
+// The frame of a number that is held: the arrays are lent, so that none is copied for it.
 fn put_held<'a>(
     header: Header,
     senders: &'a [u16; record::MOST_HELD],
@@ -81,53 +82,57 @@ fn put_held<'a>(
 }
 
 // The frames of numbers that are held, in their order.
-pub fn put_each(l: Log, numbers: &[u32], out: &mut [u8], at: usize) -> usize
+pub fn put_each(l: LogHead, contents: &[u8], numbers: &[u32], out: &mut [u8], at: usize) -> usize
     requires { ⌜
-        LogGood l
-        × (headerFollows (ringHeader l) ≡ true)
-        × Each (λ n. holds l n ≡ true) (now numbers)
+        LogGood (logOn l (now contents))
+        × (headerFollows (ringHeader (logOn l (now contents))) ≡ true)
+        × Each (λ n. holds (logOn l (now contents)) n ≡ true) (now numbers)
         × (at + longestMessage * length (now numbers) ≤ length (now out)) ⌝ }
     ensures { λ r. ⌜
-        (r ≡ at + length (joined (map (frameOf l) (now (numbers .entry)))))
-        × (now (out .exit) ≡ sets (now (out .entry)) at (joined (map (frameOf l) (now (numbers .entry))))) ⌝ }
+        (r ≡ at + length (joined (map (frameOf (logOn l (now (contents .entry)))) (now (numbers .entry)))))
+        × (now (out .exit) ≡ sets (now (out .entry)) at
+        (joined (map (frameOf (logOn l (now (contents .entry)))) (now (numbers .entry))))) ⌝ }
 {
-    let held = l.held;
+    let senders = l.senders;
+    let services = l.services;
+    let lengths = l.lengths;
     let header = ring_header(l);
     let mut at = at;
     let mut i = 0;
     while i < numbers.len() {
         let n = MessageNumber(numbers[i]);
-        at = put_held(
-            header,
-            &held.senders,
-            &held.services,
-            &held.lengths,
-            &held.contents,
-            n,
-            out,
-            at,
-        );
+        at = put_held(header, &senders, &services, &lengths, contents, n, out, at);
         i += 1;
     }
     at
 }
 
 // The frames of the n numbers after one, all of them held.
-pub fn put_run(l: Log, last: MessageNumber, n: u32, out: &mut [u8], at: usize) -> usize
+pub fn put_run(
+    l: LogHead,
+    contents: &[u8],
+    last: MessageNumber,
+    n: u32,
+    out: &mut [u8],
+    at: usize,
+) -> usize
     requires { ⌜
-        LogGood l
-        × (headerFollows (ringHeader l) ≡ true)
-        × ((k : ℕ) → last .0 < k → k ≤ last .0 + n → holds l k ≡ true)
+        LogGood (logOn l (now contents))
+        × (headerFollows (ringHeader (logOn l (now contents))) ≡ true)
+        × ((k : ℕ) → last .0 < k → k ≤ last .0 + n → holds (logOn l (now contents)) k ≡ true)
         × (last .0 + n ≤ mostNumber)
         × (at + longestMessage * n ≤ length (now out)) ⌝ }
     ensures { λ r. ⌜
-        (r ≡ at + length (joined (map (frameOf l) (numbersAfter (last .0) n))))
-        × (now (out .exit) ≡ sets (now (out .entry)) at (joined (map (frameOf l) (numbersAfter (last .0) n)))) ⌝ }
+        (r ≡ at + length (joined (map (frameOf (logOn l (now (contents .entry)))) (numbersAfter (last .0) n))))
+        × (now (out .exit) ≡ sets (now (out .entry)) at
+        (joined (map (frameOf (logOn l (now (contents .entry)))) (numbersAfter (last .0) n)))) ⌝ }
 {
     if n == 0 {
         return at;
     }
-    let held = l.held;
+    let senders = l.senders;
+    let services = l.services;
+    let lengths = l.lengths;
     let header = ring_header(l);
     let mut at = at;
     let mut i = 0;
@@ -135,10 +140,10 @@ pub fn put_run(l: Log, last: MessageNumber, n: u32, out: &mut [u8], at: usize) -
         let next = MessageNumber(last.0 + i + 1);
         at = put_held(
             header,
-            &held.senders,
-            &held.services,
-            &held.lengths,
-            &held.contents,
+            &senders,
+            &services,
+            &lengths,
+            contents,
             next,
             out,
             at,

@@ -2,17 +2,18 @@
 // 2 and 7.
 ghost use mathlib.Core.Path.{_≡_};
 ghost use mathlib.Core.Bool.{not, _&&_};
-ghost use mathlib.Core.List.{[], _++_};
-ghost use Prim.Native.Nat.{_+_, _-_, _≤_, _<_};
+ghost use mathlib.Core.List.{List, [], _++_};
+ghost use Prim.Native.Nat.{ℕ, _+_, _-_, _≤_, _<_};
 ghost use lib.ListN.{length, take, set};
 ghost use Rattle.words.specs.Scan.{lacks};
 ghost use Rattle.frames.specs.Number.{mostNumber};
 ghost use Rattle.frames.specs.Layout.{mostRequests};
+ghost use Rattle.record.specs.Head.{logOn};
 ghost use Rattle.record.specs.Held.{holds};
 ghost use Rattle.station.specs.Visit.{those, numbersAfter};
 ghost use Rattle.station.specs.Steps.{listed, listIn};
 use frames::MessageNumber;
-use record::Log;
+use record::LogHead;
 
 // Up to 16 message numbers, as a token has them: the first `count` places, the others 0.
 pub struct Requests {
@@ -50,22 +51,27 @@ pub struct Sifted {
 }
 
 // 2. Ruled out: a request struck off whose message isn't held; the rest in another order.
-pub fn sift(l: Log, requests: &[u32]) -> Sifted
+pub fn sift(l: LogHead, requests: &[u32]) -> Sifted
     requires { ⌜ (l .safe .0 ≤ mostNumber) × (length (now requests) ≤ mostRequests) ⌝ }
-    ensures { λ r. ⌜ r ≡ record {
-      held = listed (those (holds l) (now (requests .entry)));
-      rest = listed (those (λ n. not (holds l n)) (now (requests .entry)));
-    } ⌝ }
+    ensures { λ r. ⌜ ((contents : List ℕ) → r ≡ record {
+      held = listed (those (holds (logOn l contents)) (now (requests .entry)));
+      rest = listed (those (λ n. not (holds (logOn l contents) n)) (now (requests .entry)));
+    }) ⌝ }
 {
+    let senders = l.senders;
     let mut held = none_listed();
     let mut rest = none_listed();
     let mut i = 0;
     while i < requests.len() {
         let n = requests[i];
-        if record::is_held(l, MessageNumber(n)) {
-            held = add(held, n);
+        if record::is_held(l.safe, &senders, MessageNumber(n)) {
+            let place = held.count as usize;
+            held.numbers[place] = n;
+            held.count += 1;
         } else {
-            rest = add(rest, n);
+            let place = rest.count as usize;
+            rest.numbers[place] = n;
+            rest.count += 1;
         }
         i += 1;
     }
@@ -84,18 +90,24 @@ fn is_listed(r: Requests, n: u32) -> bool
 
 // 7. The numbers above `level` up to `top` that are neither held nor among `asked` are added, lowest first,
 // up to 16. Ruled out: a number asked for twice; the highest first.
-pub fn add_missing(l: Log, asked: Requests, level: MessageNumber, top: MessageNumber) -> Requests
+pub fn add_missing(
+    l: LogHead,
+    asked: Requests,
+    level: MessageNumber,
+    top: MessageNumber,
+) -> Requests
     requires { ⌜
         (l .safe .0 ≤ mostNumber)
         × (top .0 ≤ mostNumber)
         × (level .0 ≤ mostNumber)
         × (asked ≡ listed (listIn asked))
         × (asked .count ≤ mostRequests) ⌝ }
-    ensures { λ r. ⌜ r ≡ listed (take mostRequests
+    ensures { λ r. ⌜ ((contents : List ℕ) → r ≡ listed (take mostRequests
         (listIn asked ++ those
-        (λ n. not (holds l n) && lacks (listIn asked) n)
-        (numbersAfter (level .0) (top .0 - level .0)))) ⌝ }
+        (λ n. not (holds (logOn l contents) n) && lacks (listIn asked) n)
+        (numbersAfter (level .0) (top .0 - level .0))))) ⌝ }
 {
+    let senders = l.senders;
     let mut all = asked;
     let mut last = level.0;
     while last < top.0 {
@@ -103,7 +115,7 @@ pub fn add_missing(l: Log, asked: Requests, level: MessageNumber, top: MessageNu
             return all;
         }
         let n = last + 1;
-        let wanted = !record::is_held(l, MessageNumber(n)) & !is_listed(asked, n);
+        let wanted = !record::is_held(l.safe, &senders, MessageNumber(n)) & !is_listed(asked, n);
         if wanted {
             all = add(all, n);
         }

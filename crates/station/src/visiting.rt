@@ -1,70 +1,144 @@
-// A token is accepted: the visit whole.
+// A token is accepted: the visit whole. Steps 1 to 8 read the record and leave it alone; only then are new
+// messages' contents moved, deliveries handed out and messages let go.
 ghost use mathlib.Core.Path.{_≡_};
+ghost use mathlib.Core.Bool.{true};
+ghost use mathlib.Core.List.{_++_};
 ghost use Prim.Native.Nat.{_≤_};
 ghost use lib.ListN.{length};
-ghost use Rattle.station.specs.Reply.{doneOf, followedBy, mostFrames, mostDeliveries};
-ghost use Rattle.station.specs.Deliver.{handedOut};
-ghost use Rattle.station.specs.Visit.{logNow, safe′, accepted};
+ghost use lib.Seq.{sets};
+ghost use Rattle.frames.specs.Number.{mostNumber};
+ghost use Rattle.frames.specs.Header.{headerFollows};
+ghost use Rattle.frames.specs.Token.{tokenBytes};
+ghost use Rattle.record.specs.Bytes.{recordBytes};
+ghost use Rattle.record.specs.Head.{logOn, postsOn, recordIn, contentsIn, waitingIn};
+ghost use Rattle.record.specs.Held.{letGo};
+ghost use Rattle.record.specs.Layout.{recordSize, logAt, postsAt};
+ghost use Rattle.record.specs.Posts.{taken};
+ghost use Rattle.record.specs.Size.{mostPosts};
+ghost use Rattle.record.proofs.WholeFacts.{LogGood};
+ghost use Rattle.station.specs.Reply.{followedBy, mostFrames, mostDeliveries};
+ghost use Rattle.station.specs.Deliver.{ringHeader, joined, handedOut, delivered};
+ghost use Rattle.station.specs.Visit.{logNow, token′, written, accepted};
 ghost use Rattle.station.specs.EveryArrival.{Acceptable, visit};
-ghost use Rattle.station.specs.Steps.{sentOf, forwardedOf};
+ghost use Rattle.station.specs.Steps.{newFrames, sentOf, forwardedOf};
 use crate::answer::Answer;
 use crate::broadcasting;
 use crate::broadcasting::Sent;
 use crate::delivering;
-use crate::done::Done;
 use crate::forwarding;
 use crate::forwarding::Forwarded;
+use crate::held_frames;
+use crate::news;
 use crate::resending;
+use frames::MessageNumber;
 use frames::Token;
-use record::Record;
+use record::Head;
 
-// 9. Deliver, then let go; the record is put together.
-fn leave(rec: Record, t: Token, b: Sent, f: Forwarded, deliveries: &mut [u8]) -> Done
+// The new messages' contents move, and their frames and the token's are written out behind the repeats'. How many
+// bytes are written in all.
+fn send_news(h: Head, s: &mut [u8], t: Token, b: Sent, f: Forwarded, out: &mut [u8]) -> usize
     requires { ⌜
-        Acceptable (visit rec t)
-        × (b ≡ sentOf (visit rec t))
-        × (f ≡ forwardedOf (visit rec t))
-        × (mostDeliveries ≤ length (now deliveries)) ⌝ }
+        Acceptable (visit (recordIn h (now s)) t)
+        × (b ≡ sentOf (visit (recordIn h (now s)) t))
+        × (f ≡ forwardedOf (visit (recordIn h (now s)) t))
+        × (length (now s) ≡ recordSize)
+        × (mostFrames ≤ length (now out)) ⌝ }
     ensures { λ r. ⌜
-        (r ≡ doneOf (accepted (visit rec t)))
-        × (now (deliveries .exit) ≡ followedBy
-        (handedOut (logNow (visit rec t)) (safe′ (visit rec t)))
-        (now (deliveries .entry))) ⌝ }
+        (r ≡ length (joined (written (visit (recordIn h (now (s .entry))) t))))
+        × (logOn (b .log) (contentsIn (now (s .exit)) logAt) ≡ logNow (visit (recordIn h (now (s .entry))) t))
+        × (waitingIn (now (s .exit)) postsAt ≡ waitingIn (now (s .entry)) postsAt)
+        × (now (out .exit) ≡ sets (now (out .entry)) (b .size)
+        (joined (newFrames (visit (recordIn h (now (s .entry))) t))
+        ++ tokenBytes (token′ (visit (recordIn h (now (s .entry))) t)))) ⌝ }
 {
-    let handed = delivering::hand_out(b.log, f.safe, deliveries);
-    let log = record::let_go(handed.log, f.safe);
-    let turn = f.turn;
-    let posts = record::take_oldest(rec.posts, b.news as u8);
-    Done {
-        answer: Answer::Accepted {
-            frames: (b.size + turn.size as usize) as u16,
-            deliveries: handed.size as u16,
-            deaf: f.deaf,
-        },
-        rec: Record {
-            own: rec.own,
-            log,
-            turn,
-            posts,
-        },
-    }
+    news::place_news(s, h.posts, t.highest, b.news);
+    let at = held_frames::put_run(
+        b.log,
+        record::contents_in(s),
+        t.highest,
+        b.news,
+        out,
+        b.size,
+    );
+    resending::put_remembered(f.turn, &mut out[at..]);
+    at + f.turn.size as usize
 }
 
-// A token that passes 2 and 10 to 18. Ruled out: a good first visit and mere forwarding later; a delivery
-// that is let go before it is handed out.
-pub fn accept(rec: Record, t: Token, frames: &mut [u8], deliveries: &mut [u8]) -> Done
+// 9. Deliver, then let go; the posts that were sent wait no longer; the record is stored. The head has the
+// log and the turn that are left, and the posts that waited. How many bytes are delivered.
+fn leave(h: Head, s: &mut [u8], safe: MessageNumber, news: u8, deliveries: &mut [u8]) -> usize
     requires { ⌜
-        Acceptable (visit rec t)
+        (length (now s) ≡ recordSize)
+        × LogGood (recordIn h (now s) .log)
+        × (headerFollows (ringHeader (recordIn h (now s) .log)) ≡ true)
+        × (h .log .safe .0 ≤ safe .0)
+        × (safe .0 ≤ mostNumber)
+        × (news ≤ h .posts .count)
+        × (h .posts .count ≤ mostPosts)
+        × (mostDeliveries ≤ length (now deliveries)) ⌝ }
+    ensures { λ r. ⌜
+        (r ≡ length (handedOut (recordIn h (now (s .entry)) .log) (safe .0)))
+        × (now (s .exit) ≡ recordBytes (record {
+          own = h .own;
+          log = letGo (delivered (recordIn h (now (s .entry)) .log) (safe .0)) (safe .0);
+          turn = h .turn;
+          posts = taken (recordIn h (now (s .entry)) .posts) news;
+        }))
+        × (now (deliveries .exit) ≡ followedBy
+        (handedOut (recordIn h (now (s .entry)) .log) (safe .0))
+        (now (deliveries .entry))) ⌝ }
+{
+    let handed = delivering::hand_out(h.log, record::contents_in(s), safe, deliveries);
+    let mark = MessageNumber(h.log.delivered.0 + handed.count);
+    let mut told = h.log;
+    told.delivered = mark;
+    let log = record::let_go_in(told, s, safe);
+    let posts = record::take_oldest_in(h.posts, s, news);
+    let turn = h.turn;
+    let left = Head {
+        own: h.own,
+        log,
+        turn,
+        posts,
+    };
+    record::put_head(s, left);
+    handed.size
+}
+
+// A token that passes 2 and 10 to 18, at a record in these bytes with this head. Ruled out: a good first visit
+// and mere forwarding later; a delivery that is let go before it is handed out.
+pub fn accept(h: Head, s: &mut [u8], t: Token, frames: &mut [u8], deliveries: &mut [u8]) -> Answer
+    requires { ⌜
+        Acceptable (visit (recordIn h (now s)) t)
+        × (length (now s) ≡ recordSize)
         × (mostFrames ≤ length (now frames))
         × (mostDeliveries ≤ length (now deliveries)) ⌝ }
     ensures { λ r. ⌜
-        (r ≡ doneOf (accepted (visit rec t)))
-        × (now (frames .exit) ≡ followedBy (accepted (visit rec t) .frames) (now (frames .entry)))
-        × (now (deliveries .exit) ≡ followedBy (accepted (visit rec t) .deliveries) (now (deliveries .entry))) ⌝ }
+        (r ≡ accepted (visit (recordIn h (now (s .entry))) t) .answer)
+        × (now (s .exit) ≡ recordBytes (accepted (visit (recordIn h (now (s .entry))) t) .rec))
+        × (now (frames .exit) ≡ followedBy
+        (accepted (visit (recordIn h (now (s .entry))) t) .frames)
+        (now (frames .entry)))
+        × (now (deliveries .exit) ≡ followedBy
+        (accepted (visit (recordIn h (now (s .entry))) t) .deliveries)
+        (now (deliveries .entry))) ⌝ }
 {
-    let b = broadcasting::broadcast(rec, t, frames);
-    let f = forwarding::forward(rec, t, b);
-    let at = b.size;
-    resending::put_remembered(f.turn, &mut frames[at..]);
-    leave(rec, t, b, f, deliveries)
+    let b = broadcasting::broadcast(h, s, t, frames);
+    let f = forwarding::forward(h, s, t, b);
+    let written = send_news(h, s, t, b, f, frames);
+    let log = b.log;
+    let turn = f.turn;
+    let posts = h.posts;
+    let left = Head {
+        own: h.own,
+        log,
+        turn,
+        posts,
+    };
+    let told = leave(left, s, f.safe, b.news as u8, deliveries);
+    Answer::Accepted {
+        frames: written as u16,
+        deliveries: told as u16,
+        deaf: f.deaf,
+    }
 }

@@ -1,2 +1,3 @@
 pub mod OverLaws
+pub mod FoundOver
 pub mod ThereLaws

@@ -1,74 +1,66 @@
 -- The calls over C do what the station's definitions say on the record in the lent bytes.
-use Prim.Native.Nat.{ℕ, _*_, _/_, _%_, _-_, _<_, _≤_}
+use Prim.Native.Nat.{ℕ, _<_, _≤_}
 use mathlib.Core.Path.{_≡_, refl, sym, ap, _∙_}
-use mathlib.Core.Bool.{Bool, true, false, false≢true, _&&_, and-false, cond}
+use mathlib.Core.Bool.{Bool, true, false, false≢true, _&&_, cond}
 use mathlib.Core.List.{List, [], _++_, append-nil}
-use borrow.Author.Tests.{leb-true, le-leb, lt-leb, eq-eqb, ne-eqb, eqb-true, eqb-false}
-use native.Mathlib.Nat.{sub-zero}
+use borrow.Author.Tests.{ne-eqb, eqb-true, eqb-false}
 use native.Mathlib.Omega.{arith}
-use lib.ListN.{length, take, drop, drop-of-length-le}
+use lib.ListN.{length, drop, drop-of-length-le}
 use lib.Dec.{leb, eqb}
-use lib.Seq.{take-at}
-use Rattle.words.specs.Run.{words}
-use Rattle.words.proofs.RunLaws.{length-words}
+use Rattle.words.specs.Word.{Bytes}
 use Rattle.frames.proofs.Facts.{part}
-use Rattle.frames.specs.Layout.{shortestToken, mostContent}
-use Rattle.record.specs.Size.{mostMembers, mostPosts}
+use Rattle.frames.specs.Layout.{mostContent}
+use Rattle.record.specs.Size.{mostPosts}
 use Rattle.record.specs.Layout.{recordSize}
 use Rattle.record.specs.Bytes.{recordBytes, recordOf}
-use Rattle.record.specs.Fresh.{fresh}
-use Rattle.record.specs.Members.{membersCounted}
 use Rattle.record.specs.Posts.{queued}
-use Rattle.record.specs.Head.{withPosts}
+use Rattle.record.specs.Head.{recordIn, withPosts}
 use Rattle.record.specs.Whole.{whole}
-use Rattle.record.specs.Lent.{noRecord, lent}
+use Rattle.record.specs.Lent.{lent}
 use Rattle.record.proofs.LentLaws.{other-length, lent-of}
+use Rattle.record.proofs.RoundTrip.{bytes-restored}
+use Rattle.record.specs.declared.head.Head.{Head}
 use Rattle.record.specs.declared.turn.Turn.{Turn}
 use Rattle.record.specs.declared.Record.{Record}
 use Rattle.station.specs.Refusal.{refusalNumber}
 use Rattle.station.specs.Answer.{outcomeOf, isTaken}
 use Rattle.station.specs.Reply.{Reply, refused, asks, followedBy, mostFrames, doneOf, mostDeliveries}
-use Rattle.station.specs.Found.{founded, foundedOn}
 use Rattle.station.specs.Post.{withPost, posted}
-use Rattle.station.specs.Resend.{resent}
 use Rattle.station.specs.Arrive.{arrived}
-use Rattle.station.specs.Door.{foundAnswer, foundBytes, notWholeAnswer, postAnswer, resendAnswer, resendBytes}
+use Rattle.station.specs.EveryReply.{LeavesAll}
+use Rattle.station.specs.Steps.{HeadIn}
+use Rattle.station.specs.Door.{notWholeAnswer, postAnswer, resendAnswer, resendBytes}
 use Rattle.station.specs.declared.refusal.Refusal.{Refusal}
-use Rattle.station.specs.declared.refusal.Refusal.the-variants.{NoRoom, NotWhole, MemberCount}
+use Rattle.station.specs.declared.refusal.Refusal.the-variants.{NoRoom, NotWhole}
 use Rattle.station.specs.declared.answer.Answer.{Answer}
-use Rattle.station.specs.declared.answer.Answer.the-variants.{Refused}
+use Rattle.station.specs.declared.answer.Answer.the-variants.{Refused, Founded, Posted, Kept, Had, Ahead, Accepted, Resent}
 use Rattle.station.specs.declared.answer.Outcome.{Outcome}
 use Rattle.station.specs.declared.done.Done.{Done}
 use Rattle.station.proofs.RefusalLaws.{some-number}
-use Rattle.station.proofs.FoundLaws.{founded-refused, founded-all}
 use Rattle.station.proofs.PostLaws.{posted-not-whole, posted-refused, asked-all, posted-taken}
 use Rattle.station.proofs.ResendLaws.{resent-not-whole, resent-whole}
 use Rattle.station.proofs.ArriveLaws.{arrived-not-whole}
-use Rattle.totem.specs.Over.{idsIn, listedCount, stationAfter, foundOver, postOver, arriveOver, resendOver}
+use Rattle.station.proofs.ArrivedGood.{arrived-good}
+use Rattle.totem.specs.Over.{stationAfter, postOver, arriveOver, resendOver}
 
--- ---- the record put back
-
-pub put-taken : (done : Done) (a : Answer) (b : Bool) (r : Record) (s s′ : List ℕ)
-    → a ≡ done .answer
-    → b ≡ isTaken a
-    → b ≡ true
-    → r ≡ done .rec
-    → s′ ≡ recordBytes r ++ drop recordSize s
-    → s′ ≡ stationAfter done s
-put-taken done a b r s s′ e t yes-taken f g =
-    let known : isTaken (done .answer) ≡ true = rw e at (sym t ∙ yes-taken) in
-    rw known (rw f at g)
-
-pub put-refused : (done : Done) (a : Answer) (b : Bool) (s : List ℕ) → a ≡ done .answer → b ≡ isTaken a → b ≡ false → s ≡ stationAfter done s
-put-refused done a b s e t not-taken =
-    let known : isTaken (done .answer) ≡ false = rw e at (sym t ∙ not-taken) in
-    rw known
+-- ---- a refusal, and a call that is taken
 
 -- a refusal leaves the bytes
 refused-after : (r : Record) (why : Refusal) (s : List ℕ) → s ≡ stationAfter (doneOf (refused r why)) s
 refused-after r why s =
     let no : isTaken (Refused why) ≡ false = ne-eqb (refusalNumber why) 0 (some-number why) in
     rw no
+
+-- a call that isn't taken is refused
+pub not-taken : (a : Answer) → isTaken a ≡ false → (why : Refusal) × (a ≡ Refused why)
+not-taken (Refused why) e = (why, refl)
+not-taken Founded e = absurd (false≢true (sym e))
+not-taken Posted e = absurd (false≢true (sym e))
+not-taken (Kept n) e = absurd (false≢true (sym e))
+not-taken (Had n) e = absurd (false≢true (sym e))
+not-taken (Ahead n) e = absurd (false≢true (sym e))
+not-taken (Accepted frames deliveries deaf) e = absurd (false≢true (sym e))
+not-taken (Resent n) e = absurd (false≢true (sym e))
 
 -- ---- a posting or an arrival that is taken was made on a whole record, so on a record's length
 
@@ -96,95 +88,7 @@ whole-enough s w = omega (arith, whole-long s w)
 pub whole-lent : (s : List ℕ) → whole (lent s) ≡ true → lent s ≡ recordOf s
 whole-lent s w = lent-of s (whole-long s w)
 
--- ---- the list of members
-
-ids-even : (s : List ℕ) → eqb (length s % 2) 0 ≡ true → idsIn s ≡ words 2 (length s / 2) s
-unfolding idsIn
-ids-even s even = rw even
-
-ids-odd : (s : List ℕ) → eqb (length s % 2) 0 ≡ false → idsIn s ≡ []
-unfolding idsIn
-ids-odd s odd = rw odd
-
--- the ids that are read, and those that the bytes list: the same, or refused alike
-pub data Listed (s : List ℕ) : Type 0 where
-  same : idsIn s ≡ words 2 (listedCount s) s → Listed s
-  refused-alike : membersCounted (idsIn s) ≡ false → membersCounted (words 2 (listedCount s) s) ≡ false → Listed s
-
-listed : (s : List ℕ) → Listed s
-unfolding words
-listed s = go (eqb (length s % 2) 0) (leb (length s / 2) mostMembers) refl refl
-  where
-    go : (even few : Bool) → eqb (length s % 2) 0 ≡ even → leb (length s / 2) mostMembers ≡ few → Listed s
-    go true true e f = same (ids-even s e ∙ rw (e, f))
-    go true false e f =
-        let long : length (words 2 (length s / 2) s) ≡ length s / 2 = length-words 2 (length s / 2) s in
-        refused-alike (rw (ids-even s e, long, f, and-false)) (rw (e, f))
-    go false few e f = same (ids-odd s e ∙ rw e)
-
-uncounted : (room : Bool) (ids : List ℕ) (own ring : ℕ) → membersCounted ids ≡ false → foundAnswer room ids own ring ≡ cond room (Refused MemberCount) (Refused NoRoom)
-uncounted room ids own ring e = rw e
-
-same-answer : (room : Bool) (s : List ℕ) (own ring : ℕ) → foundAnswer room (idsIn s) own ring ≡ foundAnswer room (words 2 (listedCount s) s) own ring
-same-answer room s own ring =
-    elim (listed s) [
-      | same e ↦ rw e
-      | refused-alike e f ↦ uncounted room (idsIn s) own ring e ∙ sym (uncounted room (words 2 (listedCount s) s) own ring f)
-    ]
-
-not-taken-uncounted : (room : Bool) → isTaken (cond room (Refused MemberCount) (Refused NoRoom)) ≡ false
-not-taken-uncounted true = refl
-not-taken-uncounted false = refl
-
-taken-same : (room : Bool) (s : List ℕ) (own ring : ℕ) → isTaken (foundAnswer room (words 2 (listedCount s) s) own ring) ≡ true → idsIn s ≡ words 2 (listedCount s) s
-taken-same room s own ring t =
-    elim (listed s) [
-      | same e ↦ e
-      | refused-alike e f ↦ absurd (false≢true (sym (not-taken-uncounted room) ∙ ap isTaken (sym (uncounted room (words 2 (listedCount s) s) own ring f)) ∙ t))
-    ]
-
--- the part of the array that was read
-pub ids-read : (s ids rest : List ℕ) (n : ℕ) → ids ≡ words 2 n s ++ rest → take (n - 0) ids ≡ words 2 n s
-ids-read s ids rest n e = rw (e, sub-zero) (take-at (words 2 n s) rest n (length-words 2 n s))
-
--- as the code counts them
-module _ (s : List ℕ) where
-  pub count-odd : (length s ≡ 2 * (length s / 2) → ⊥) → 0 ≡ listedCount s
-  count-odd odd = rw (ne-eqb (length s % 2) 0 (λ e. odd (omega arith)))
-
-  pub count-many : mostMembers < length s / 2 → 0 ≡ listedCount s
-  count-many many = rw (lt-leb (length s / 2) mostMembers many, and-false)
-
-  pub count-even : length s ≡ 2 * (length s / 2) → length s / 2 ≤ mostMembers → length s / 2 ≡ listedCount s
-  count-even even few = rw (eq-eqb (length s % 2) 0 (omega arith), le-leb (length s / 2) mostMembers few)
-
--- they are there, and have their places
-pub count-fits : (s : List ℕ) → (2 * listedCount s ≤ length s) × (listedCount s ≤ mostMembers)
-count-fits s = go (eqb (length s % 2) 0) (leb (length s / 2) mostMembers) refl
-  where
-    go : (even few : Bool) → leb (length s / 2) mostMembers ≡ few → (2 * cond (even && few) (length s / 2) 0 ≤ length s) × (cond (even && few) (length s / 2) 0 ≤ mostMembers)
-    go true true f = (omega arith, leb-true (length s / 2) mostMembers f)
-    go true false f = (omega arith, omega arith)
-    go false few f = (omega arith, omega arith)
-
--- ---- room for the record
-
-over-roomless : (s members : List ℕ) (own ring room : ℕ) → length s < recordSize → foundOver s members own ring room ≡ refused noRecord NoRoom
-unfolding foundOver founded
-over-roomless s members own ring room h = rw (lt-leb recordSize (length s) h)
-
-pub over-room : (s members : List ℕ) (own ring room : ℕ) → recordSize ≤ length s → foundOver s members own ring room ≡ foundedOn noRecord room (idsIn members) own ring
-unfolding foundOver
-over-room s members own ring room h = rw (le-leb recordSize (length s) h)
-
--- ---- what a call says and leaves, from what its step did
-
-module _ (reply : Reply) (done : Done) (a : Answer) (o : Outcome) (d : done ≡ doneOf reply) (e : a ≡ done .answer) (f : o ≡ outcomeOf a) where
-  said : o ≡ outcomeOf (reply .answer)
-  said = rw (e, d) at f
-
-  left : (s s′ : List ℕ) → s′ ≡ stationAfter done s → s′ ≡ stationAfter (doneOf reply) s
-  left s s′ g = rw d at g
+-- ---- posting
 
 module _ (s : List ℕ) (service : ℕ) (content : List ℕ) (o : Outcome) where
   pub post-not-whole : whole (lent s) ≡ false
@@ -223,6 +127,8 @@ module _ (s : List ℕ) (service : ℕ) (content : List ℕ) (o : Outcome) where
           e ∙ ap (λ (r : Record). recordBytes (withPost r service content)) (sym (whole-lent s w)) ∙ sym tail ∙ sym after,
         )
 
+-- ---- arrival
+
 pub arrive-not-whole : (s frame out told : List ℕ) (fits : Bool) (a : Answer) (o : Outcome)
     → whole (lent s) ≡ false
     → fits ≡ (leb mostFrames (length out) && leb mostDeliveries (length told))
@@ -237,21 +143,51 @@ arrive-not-whole s frame out told fits a o w e f g =
     let reply = arrived-not-whole (lent s) frame (length out) (length told) w in
     rw (reply, ← e) (g ∙ ap outcomeOf f, refused-after (lent s) (cond fits NotWhole NoRoom) s, refl, refl)
 
-pub arrive-over : (s frame out told : List ℕ) (r : Record) (done : Done) (a : Answer) (o : Outcome) (s′ out′ told′ : List ℕ)
-    → r ≡ lent s
-    → (done ≡ doneOf (arrived r frame (length out) (length told))) × (out′ ≡ followedBy (arrived r frame (length out) (length told) .frames) out) × (told′ ≡ followedBy (arrived r frame (length out) (length told) .deliveries) told)
-    → s′ ≡ stationAfter done s
-    → a ≡ done .answer
+-- the head that was looked at, in the bytes of a whole record
+pub head-there : (s : List ℕ) (h : Head) → Bytes s → whole (lent s) ≡ true → recordIn h s ≡ lent s → HeadIn h s
+head-there s h bytes w reads =
+    record {
+      whole-record = rw reads w;
+      bytes = sym (bytes-restored s bytes (whole-long s w)) ∙ ap recordBytes (sym (reads ∙ whole-lent s w));
+      size = whole-long s w;
+    }
+
+-- what a call leaves in them, taken or refused
+left : (s : List ℕ) (reply : Reply) → Bytes s → whole (lent s) ≡ true → LeavesAll (lent s) reply → recordBytes (reply .rec) ≡ stationAfter (doneOf reply) s
+left s reply bytes w leaves = go (isTaken (reply .answer)) refl
+  where
+    go : (b : Bool) → isTaken (reply .answer) ≡ b → recordBytes (reply .rec) ≡ stationAfter (doneOf reply) s
+    go true t =
+        let none : drop recordSize s ≡ [] = drop-of-length-le s {i = recordSize} (omega (arith, whole-long s w)) in
+        rw (t, none, append-nil)
+    go false t =
+        let no = not-taken (reply .answer) t in
+        let same = ap (λ (x : Reply). x .rec) (leaves (no .0) (no .1)) in
+        rw (t, same, whole-lent s w) (bytes-restored s bytes (whole-long s w))
+
+arrived-after : (s frame : List ℕ) (frames deliveries : ℕ) → Bytes s → whole (lent s) ≡ true
+    → recordBytes (arrived (lent s) frame frames deliveries .rec) ≡ stationAfter (doneOf (arrived (lent s) frame frames deliveries)) s
+arrived-after s frame frames deliveries bytes w = left s (arrived (lent s) frame frames deliveries) bytes w (arrived-good (lent s) frame frames deliveries .0)
+
+pub arrive-over : (s frame out told : List ℕ) (h : Head) (a : Answer) (o : Outcome) (s′ out′ told′ : List ℕ)
+    → Bytes s
+    → whole (lent s) ≡ true
+    → recordIn h s ≡ lent s
+    → (a ≡ arrived (recordIn h s) frame (length out) (length told) .answer)
+    × (s′ ≡ recordBytes (arrived (recordIn h s) frame (length out) (length told) .rec))
+    × (out′ ≡ followedBy (arrived (recordIn h s) frame (length out) (length told) .frames) out)
+    × (told′ ≡ followedBy (arrived (recordIn h s) frame (length out) (length told) .deliveries) told)
     → o ≡ outcomeOf a
     → (o ≡ outcomeOf (arriveOver s frame (length out) (length told) .answer))
     × (s′ ≡ stationAfter (doneOf (arriveOver s frame (length out) (length told))) s)
     × (out′ ≡ followedBy (arriveOver s frame (length out) (length told) .frames) out)
     × (told′ ≡ followedBy (arriveOver s frame (length out) (length told) .deliveries) told)
 unfolding arriveOver
-arrive-over s frame out told r done a o s′ out′ told′ l d g e f =
-    let reply = arrived (lent s) frame (length out) (length told) in
-    let d′ : (done ≡ doneOf reply) × (out′ ≡ followedBy (reply .frames) out) × (told′ ≡ followedBy (reply .deliveries) told) = rw l at d in
-    (said reply done a o (d′ .0) e f, left reply done a o (d′ .0) e f s s′ g, d′ .1, d′ .2)
+arrive-over s frame out told h a o s′ out′ told′ bytes w reads d f =
+    let e = rw reads at d in
+    (f ∙ ap outcomeOf (e .0), e .1 ∙ arrived-after s frame (length out) (length told) bytes w, e .2, e .3)
+
+-- ---- resending
 
 module _ (s out : List ℕ) (a : Answer) (o : Outcome) where
   pub resend-not-whole : (fits : Bool) → whole (lent s) ≡ false
@@ -271,44 +207,3 @@ module _ (s out : List ℕ) (a : Answer) (o : Outcome) where
   resend-over t out′ w e d g =
       let turn : t ≡ lent s .turn = rw (whole-lent s w) e in
       rw (resent-whole (lent s) (length out) w, ← turn) (g ∙ ap outcomeOf (d .0), d .1)
-
-module _ (s members out : List ℕ) (own ring : ℕ) where
-  pub found-over-roomless : (o : Outcome)
-      → length s < recordSize
-      → o ≡ outcomeOf (Refused NoRoom)
-      → (o ≡ outcomeOf (foundOver s members own ring (length out) .answer)) × (s ≡ stationAfter (doneOf (foundOver s members own ring (length out))) s) × (out ≡ followedBy (foundOver s members own ring (length out) .frames) out)
-  found-over-roomless o h f = rw (over-roomless s members own ring (length out) h) (f, refl, refl)
-
-  module _ (n : ℕ) (ids out′ : List ℕ) (a : Answer) (o : Outcome)
-      (room : recordSize ≤ length s)
-      (counts : n ≡ listedCount members)
-      (are : ids ≡ words 2 n members)
-      (d : (a ≡ foundAnswer (leb shortestToken (length out)) ids own ring) × (out′ ≡ followedBy (foundBytes (leb shortestToken (length out)) ids own ring) out))
-      (f : o ≡ outcomeOf a)
-    where
-      read : ids ≡ words 2 (listedCount members) members
-      read = rw (← counts) are
-
-      fits : Bool
-      fits = leb shortestToken (length out)
-
-      pub found-refused : isTaken a ≡ false
-          → (o ≡ outcomeOf (foundOver s members own ring (length out) .answer)) × (s ≡ stationAfter (doneOf (foundOver s members own ring (length out))) s) × (out′ ≡ followedBy (foundOver s members own ring (length out) .frames) out)
-      unfolding fits
-      found-refused n₀ =
-          let said : a ≡ foundAnswer fits (words 2 (listedCount members) members) own ring = rw read at (d .0) in
-          let known : a ≡ foundAnswer fits (idsIn members) own ring = said ∙ sym (same-answer fits members own ring) in
-          let n₁ : isTaken (foundAnswer fits ids own ring) ≡ false = rw (d .0) at n₀ in
-          let n₂ : isTaken (foundAnswer fits (idsIn members) own ring) ≡ false = rw known at n₀ in
-          let reply = over-room s members own ring (length out) room ∙ founded-refused noRecord fits (idsIn members) own ring n₂ in
-          rw reply (f ∙ ap outcomeOf known, sym (rw n₂), rw n₂ (rw n₁ at (d .1)))
-
-      pub found-taken : (s′ : List ℕ) → isTaken a ≡ true → s′ ≡ recordBytes (fresh ids own ring) ++ drop recordSize s
-          → (o ≡ outcomeOf (foundOver s members own ring (length out) .answer)) × (s′ ≡ stationAfter (doneOf (foundOver s members own ring (length out))) s) × (out′ ≡ followedBy (foundOver s members own ring (length out) .frames) out)
-      unfolding fits
-      found-taken s′ t₀ e =
-          let t₁ : isTaken (foundAnswer fits (words 2 (listedCount members) members) own ring) ≡ true = rw (d .0, read) at t₀ in
-          let equal : ids ≡ idsIn members = read ∙ sym (taken-same fits members own ring t₁) in
-          let t₂ : isTaken (foundAnswer fits (idsIn members) own ring) ≡ true = rw (d .0, equal) at t₀ in
-          let reply = over-room s members own ring (length out) room ∙ founded-all noRecord fits (idsIn members) own ring t₂ .1 in
-          rw reply (f ∙ ap outcomeOf (rw equal at (d .0)), rw t₂ (rw equal at e), rw equal at (d .1))

@@ -20,18 +20,7 @@ use Rattle.station.specs.declared.refusal.Refusal.{Refusal}
 use Rattle.station.specs.declared.answer.Answer.{Answer}
 use Rattle.station.specs.declared.answer.Answer.the-variants.{Refused, Founded, Posted, Kept, Had, Ahead, Accepted, Resent}
 use Rattle.totem.specs.Over.{stationAfter, foundOver, postOver, arriveOver, PostedThere, ArrivedThere, FoundedThere}
-use Rattle.totem.proofs.OverLaws.{post-whole, arrive-whole, whole-long}
-
--- a call that isn't taken is refused
-not-taken : (a : Answer) → isTaken a ≡ false → (why : Refusal) × (a ≡ Refused why)
-not-taken (Refused why) e = (why, refl)
-not-taken Founded e = absurd (false≢true (sym e))
-not-taken Posted e = absurd (false≢true (sym e))
-not-taken (Kept n) e = absurd (false≢true (sym e))
-not-taken (Had n) e = absurd (false≢true (sym e))
-not-taken (Ahead n) e = absurd (false≢true (sym e))
-not-taken (Accepted frames deliveries deaf) e = absurd (false≢true (sym e))
-not-taken (Resent n) e = absurd (false≢true (sym e))
+use Rattle.totem.proofs.OverLaws.{not-taken, post-whole, arrive-whole, whole-long}
 
 module _ (s : List ℕ) (reply : Reply) where
   -- a whole record is there once its bytes stand in place of a record's

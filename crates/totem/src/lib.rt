@@ -2,28 +2,14 @@
 // include/totem.h declares and documents them. A refusal writes no lent byte. Whether a record is whole is asked
 // of its bytes where they are lent.
 ghost use mathlib.Core.Path.{_≡_};
-ghost use mathlib.Core.Bool.{true};
-ghost use Prim.Native.Nat.{_≤_};
 ghost use lib.ListN.{length};
-ghost use Rattle.record.specs.Layout.{recordSize};
-ghost use Rattle.station.specs.Answer.{outcomeOf, isTaken};
+ghost use Rattle.station.specs.Answer.{outcomeOf};
 ghost use Rattle.station.specs.Reply.{doneOf, followedBy};
 ghost use Rattle.totem.specs.Over.{listedCount, stationAfter, foundOver, postOver, arriveOver, resendOver};
 use frames::RingNumber;
 use station::Answer;
-use station::Done;
 use station::Outcome;
 use station::Refusal;
-
-// The record back into the bytes that were lent, unless the call was refused.
-fn put_back(bytes: &mut [u8], done: Done)
-    requires { ⌜ (isTaken (done .answer) ≡ true → recordSize ≤ length (now bytes)) ⌝ }
-    ensures { λ _. ⌜ now (bytes .exit) ≡ stationAfter done (now (bytes .entry)) ⌝ }
-{
-    if station::is_taken(station::answer_of(done)) {
-        record::encode(station::rec_of(done), bytes);
-    }
-}
 
 // How many ids a list of members has; bytes that are no list (an odd number, or too many ids) have none, and
 // founding by none is refused as founding by them.
@@ -66,7 +52,8 @@ pub extern "C" fn totem_found(
     let n = id_count(members);
     words::get_u16s(members, 0, n, &mut ids);
     let answer = station::found_answer(&ids[0..n], own, RingNumber(ring), token);
-    if !station::is_taken(answer) {
+    let founded = station::is_taken(answer);
+    if !founded {
         return station::outcome_of(answer);
     }
     record::put_fresh(bytes, &ids[0..n], own, RingNumber(ring));
@@ -114,13 +101,12 @@ pub extern "C" fn totem_arrive(
         (arriveOver (now (bytes .entry)) (now (frame .entry)) (length (now (frames .entry))) (length (now (deliveries .entry))) .deliveries)
         (now (deliveries .entry))) ⌝ }
 {
-    if !record::is_whole_in(bytes) {
+    let seen = record::look(bytes);
+    if !seen.whole {
         let room = station::arrival_fits(frames.len(), deliveries.len());
         return station::outcome_of(station::not_whole(room));
     }
-    let done = station::arrive_whole(record::decode(bytes), frame, frames, deliveries);
-    put_back(bytes, done);
-    station::outcome_of(station::answer_of(done))
+    station::outcome_of(station::arrive_in(seen.head, bytes, frame, frames, deliveries))
 }
 
 // Resending. Ruled out: another token written; 2 where the buffer is too small already.

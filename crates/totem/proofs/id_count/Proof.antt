@@ -1,5 +1,5 @@
 use borrow.Author.Needs.{needs}
-use Rattle.totem.proofs.OverLaws.{count-odd, count-many, count-even}
+use Rattle.totem.proofs.FoundOver.{count-odd, count-many, count-even}
 use Rattle.totem.proofs.id_count.Statement.{statement}
 use Rattle.totem.proofs.id_count.Tie as tie
 

@@ -4,7 +4,7 @@ use borrow.Author.Tests.{not-true, not-false}
 use lib.ListN.{length, take}
 use borrow.Author.Needs.{needs}
 use Rattle.words.proofs.RunLaws.{length-words}
-use Rattle.totem.proofs.OverLaws.{count-fits, ids-read, found-over-roomless, found-refused, found-taken}
+use Rattle.totem.proofs.FoundOver.{count-fits, ids-read, found-over-roomless, found-refused, found-taken}
 use Rattle.totem.proofs.totem_found.Statement.{statement}
 use Rattle.totem.proofs.totem_found.Tie as tie
 

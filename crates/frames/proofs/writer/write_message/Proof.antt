@@ -1,12 +1,10 @@
 use mathlib.Core.Path.{_≡_, sym, _∙_}
 use mathlib.Core.Bool.{true}
-use native.Mathlib.Omega.{arith}
 use borrow.Author.Needs.{needs}
 use borrow.Author.Tests.{not-true, not-false}
 use Rattle.frames.specs.Message.{messageFollows}
-use Rattle.frames.proofs.Facts.{message-facts}
 use Rattle.frames.proofs.Sizes.{message-length}
-use Rattle.frames.proofs.WriteLaws.{write-malformed, write-roomless, message-taken}
+use Rattle.frames.proofs.WriteLaws.{write-malformed, write-roomless, write-counted}
 use Rattle.frames.proofs.writer.write_message.Statement.{statement}
 use Rattle.frames.proofs.writer.write_message.Tie as tie
 
@@ -17,24 +15,13 @@ returns : tie.Need-returns
 returns c = write-malformed _ _ _ (sym (c .before .message-follows .ensures) ∙ not-true _ (c .if1 .taken))
 
 returns-2 : tie.Need-returns-2
-returns-2 c =
-    write-roomless _ _ _ _ (follows
-    (c .before)) (message-length _
-    (c .before .before .before .before .before .args .content .now)) (c .if2 .taken)
+returns-2 c = write-roomless _ _ _ _ (follows (c .before)) (message-length _ (c .before .before .before .before .before .args .content .now)) (c .if2 .taken)
 
-put-message-fixed-requires : tie.Need-put-message-fixed-requires
-put-message-fixed-requires c κs = let facts = message-facts _ _ (follows (c .before .before)) in (search needs, search needs, omega (arith, facts .short))
+put-message-requires : tie.Need-put-message-requires
+put-message-requires c κs = (follows (c .before .before), c .before .if2 .left)
 
 returns-3 : tie.Need-returns-3
-returns-3 c =
-    message-taken _ _ _ _ _ (follows
-    (c .before .before .before .before .before .before .before .before .before))
-    (c .before .before .before .before .before .before .before .before .if2 .left)
-    (c .before .before .before .before .before .before .put-message-fixed .ensures)
-    (c .before .before .put-bytes .ensures)
+returns-3 c = (write-counted _ _ _ _ (follows (c .before .before .before .before .before)) (message-length _ (c .before .before .before .before .before .before .before .before .before .args .content .now)) (c .before .before .before .before .if2 .left), c .before .before .put-message .ensures)
 
 pub write-message-spec : {M : Type 1} → statement M
-write-message-spec =
-    tie.close
-    (tie.spec (λ c κs. search needs) returns (λ c. search needs) returns-2 put-message-fixed-requires (λ c κs. search needs)
-    (λ c. search needs) returns-3)
+write-message-spec = tie.close (tie.spec (λ c κs. search needs) returns (λ c. search needs) returns-2 put-message-requires (λ c. search needs) returns-3)

@@ -8,53 +8,27 @@ use borrow.Author.Tests.{not-true, not-false}
 use Rattle.frames.specs.Token.{tokenFollows}
 use Rattle.frames.proofs.Facts.{token-facts}
 use Rattle.frames.proofs.Sizes.{token-length}
-use Rattle.frames.proofs.WriteLaws.{write-malformed, write-roomless, token-taken}
-use lib.Seq.{length-take-le}
+use Rattle.frames.proofs.WriteLaws.{write-malformed, write-roomless, write-counted}
 use Rattle.frames.proofs.writer.write_token.Statement.{statement}
 use Rattle.frames.proofs.writer.write_token.Tie as tie
 
-follows : (c : tie.Else1) → tokenFollows (c .before .before .before .before .args .t) ≡ true
+follows : (c : tie.Else1) → tokenFollows (c .before .before .before .args .t) ≡ true
 follows c = sym (c .before .token-follows .ensures) ∙ not-false _ (c .if1 .left)
 
-few : (c : tie.Else1) → c .before .before .before .before .args .t .count ≤ length (c .before .before .before .before .args .t .requests)
+few : (c : tie.Else1) → c .before .before .before .args .t .count ≤ length (c .before .before .before .args .t .requests)
 few c = let facts = token-facts _ (follows c) .requests in omega (arith, facts .few, facts .places)
 
 returns : tie.Need-returns
 returns c = write-malformed _ _ _ (sym (c .before .token-follows .ensures) ∙ not-true _ (c .if1 .taken))
 
 returns-2 : tie.Need-returns-2
-returns-2 c =
-    write-roomless _ _ _ _ (follows
-    (c .before .before)) (token-length _ (few
-    (c .before .before)) ∙ sym
-    (c .before .token-size .ensures)) (c .if2 .taken)
+returns-2 c = write-roomless _ _ _ _ (follows (c .before .before)) (token-length _ (few (c .before .before)) ∙ sym (c .before .token-size .ensures)) (c .if2 .taken)
 
-put-token-fixed-requires : tie.Need-put-token-fixed-requires
-put-token-fixed-requires c κs = let facts = token-facts _ (follows (c .before .before .before .before)) in (omega arith, facts .requests .few)
-
-array-share-prefix-requests : tie.Need-array-share-prefix-requests
-array-share-prefix-requests c = few (c .before .before .before .before .before .before .before .before)
-
-slice-aggregate-put-u32s : tie.Need-slice-aggregate-put-u32s
-slice-aggregate-put-u32s c = sym (length-take-le _ _ (few (c .before .before .before .before .before .before .before .before .before)))
-
-put-u32s-requires : tie.Need-put-u32s-requires
-put-u32s-requires c κs = let t = c .before .before .before .before .before .before .before .before .before .before .before .before .before .args .t in
-    let e = length-take-le (t .count) (t .requests) (few (c .before .before .before .before .before .before .before .before .before)) in
-    omega (arith, e)
+put-token-requires : tie.Need-put-token-requires
+put-token-requires c κs = (follows (c .before .before .before), omega (arith, c .before .before .token-size .ensures, c .before .if2 .left))
 
 returns-3 : tie.Need-returns-3
-returns-3 c =
-    token-taken _ _ _ _ _ (follows
-    (c .before .before .before .before .before .before .before .before .before .before .before .before))
-    (c .before .before .before .before .before .before .before .before .before .before .before .token-size .ensures)
-    (c .before .before .before .before .before .before .before .before .before .before .if2 .left) (few
-    (c .before .before .before .before .before .before .before .before .before .before .before .before))
-    (c .before .before .before .before .before .before .before .put-token-fixed .ensures)
-    (c .before .before .put-u32s .ensures)
+returns-3 c = (write-counted _ _ _ _ (follows (c .before .before .before .before .before .before)) (token-length _ (few (c .before .before .before .before .before .before)) ∙ sym (c .before .before .before .before .before .token-size .ensures)) (c .before .before .before .before .if2 .left), c .before .before .put-token .ensures)
 
 pub write-token-spec : {M : Type 1} → statement M
-write-token-spec =
-    tie.close
-    (tie.spec (λ c κs. search needs) returns (λ c κs. search needs) returns-2 (λ c. search needs) put-token-fixed-requires
-    array-share-prefix-requests slice-aggregate-put-u32s put-u32s-requires (λ c. search needs) returns-3)
+write-token-spec = tie.close (tie.spec (λ c κs. search needs) returns (λ c κs. search needs) returns-2 put-token-requires (λ c. search needs) returns-3)

@@ -1,28 +1,42 @@
 use Prim.Native.Nat.{_+_, _-_, _≤_}
-use mathlib.Core.Path.{_≡_, sym, _∙_}
+use mathlib.Core.Path.{_≡_, sym, ap, _∙_}
+use lib.ListN.{length}
 use borrow.Author.Needs.{needs}
-use Rattle.record.specs.Held.{cleared, clearedFrom}
+use Rattle.record.specs.Head.{heldOn, logOn}
+use Rattle.record.specs.Held.{logWith, cleared, clearedFrom}
 use Rattle.record.proofs.HeldSteps.{cleared-none, cleared-more, cleared-all}
 use Rattle.record.proofs.held.clear_from.Statement.{statement}
 use Rattle.record.proofs.held.clear_from.Tie as tie
 
+-- what is left to clear decides the whole; the marks and the members stay
 abbrev Inv-loop : tie.InvT-loop
-Inv-loop first n held₀ i₀ zeros held i = (i ≤ n) × (clearedFrom held (first + i) (n - i) ≡ clearedFrom held₀ first n)
+Inv-loop contents₀ first n head₀ i₀ zeros contents head i =
+    (i ≤ n)
+    × (length contents ≡ length contents₀)
+    × (logWith (logOn head contents) (head .level) (head .safe) (head .delivered) (clearedFrom (heldOn head contents) (first + i) (n - i))
+    ≡ logWith (logOn head₀ contents₀) (head₀ .level) (head₀ .safe) (head₀ .delivered) (clearedFrom (heldOn head₀ contents₀) first n))
 
 abbrev μ-loop : tie.MeasureT-loop
-μ-loop first n held₀ i₀ zeros held i = n - i
+μ-loop contents₀ first n head₀ i₀ zeros contents head i = n - i
 
 loop-holds : tie.Need-loop-holds Inv-loop μ-loop
-loop-holds c = (search needs, cleared-none _ _ _)
+loop-holds c = (search needs, search needs, rw (cleared-none _ _ _))
+
+put-content-requires : tie.Need-put-content-requires Inv-loop μ-loop
+put-content-requires c κs = search needs
 
 loop-again : tie.Need-loop-again Inv-loop μ-loop
 unfolding cleared
-loop-again c = (search needs, rw (c .put-content .ensures) (sym (cleared-more _ _ _ _ (c .before .before .before .loop-test .taken)) ∙ c .before .before .before .before .loop .inv .1))
+loop-again c = (
+  search needs,
+  search needs,
+  rw (c .before .before .put-content .ensures) (rw (cleared-more _ _ _ _ (c .before .before .before .before .before .loop-test .taken)) at (c .before .before .before .before .before .before .loop .inv .2)),
+)
 
 returns : tie.Need-returns Inv-loop μ-loop
-returns c = sym (cleared-all _ _ _ _ (c .loop-test .left)) ∙ c .before .loop .inv .1
+returns c = rw (cleared-all _ _ _ _ (c .loop-test .left)) at (c .before .loop .inv .2)
 
 pub clear-from-spec : {M : Type 1} → statement M
 clear-from-spec =
     tie.close
-    (tie.spec Inv-loop μ-loop loop-holds (λ c. search needs) (λ c. search needs) (λ c. search needs) (λ c. search needs) (λ c. search needs) (λ c. search needs) (λ c. search needs) (λ c. search needs) (λ c κs. search needs) (λ c. search needs) (λ c. search needs) loop-again returns)
+    (tie.spec Inv-loop μ-loop loop-holds (λ c. search needs) (λ c. search needs) (λ c. search needs) (λ c. search needs) (λ c. search needs) (λ c. search needs) (λ c. search needs) (λ c. search needs) put-content-requires (λ c. search needs) (λ c. search needs) loop-again (λ c. search needs) returns)

@@ -10,20 +10,21 @@ use Rattle.record.proofs.whole.held_to_level.Statement.{statement}
 use Rattle.record.proofs.whole.held_to_level.Tie as tie
 
 abbrev Inv-loop : tie.InvT-loop
-Inv-loop l contents level n₀ n = Running (holds (logOn l contents)) (l .safe .0) (l .level .0) n
+Inv-loop contents l level n₀ n = Running (holds (logOn l contents)) (l .safe .0) (l .level .0) n
 
 abbrev μ-loop : tie.MeasureT-loop
-μ-loop l contents level n₀ n = suc level - n
+μ-loop contents l level n₀ n = suc level - n
 
 loop-holds : tie.Need-loop-holds Inv-loop μ-loop
 loop-holds c = run-starts _ _ _
 
 returns : tie.Need-returns Inv-loop μ-loop
-unfolding heldToLevel
-returns c = run-stops _ _ _ _ (c .before .before .before .loop .inv) (c .before .before .loop-test .taken) (sym (c .before .is-held .ensures) ∙ not-true _ (c .if1 .taken))
+unfolding heldToLevel holds
+returns c = run-stops _ _ _ _ (c .before .before .before .before .before .before .loop .inv) (c .before .before .before .before .before .loop-test .taken) (sym (c .before .is-held .ensures) ∙ not-true _ (c .if1 .taken))
 
 loop-again : tie.Need-loop-again Inv-loop μ-loop
-loop-again c = run-goes _ _ _ _ (c .before .before .before .loop .inv) (c .before .before .loop-test .taken) (sym (c .before .is-held .ensures) ∙ not-false _ (c .if1 .left))
+unfolding holds
+loop-again c = run-goes _ _ _ _ (c .before .before .before .before .before .before .loop .inv) (c .before .before .before .before .before .loop-test .taken) (sym (c .before .is-held .ensures) ∙ not-false _ (c .if1 .left))
 
 returns-2 : tie.Need-returns-2 Inv-loop μ-loop
 unfolding heldToLevel

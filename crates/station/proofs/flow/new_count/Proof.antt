@@ -14,7 +14,7 @@ returns c = rw (
   c .before .before .before .before .before .before .before .less .ensures,
   c .before .before .before .before .before .before .before .before .allowance .ensures,
   c .before .before .before .before .before .before .before .before .before .others .ensures,
-  c .before .before .before .before .before .before .before .before .before .before .pre .0,
+  c .before .before .before .before .before .before .before .before .before .before .before .pre .0,
 )
 
 pub new-count-spec : {M : Type 1} → statement M

@@ -2,6 +2,7 @@ use Prim.Native.Nat.{_+_}
 use mathlib.Core.Path.{_≡_, refl, ap}
 use native.Mathlib.Omega.{arith}
 use borrow.Author.Needs.{needs}
+use Rattle.record.specs.Head.{recordIn}
 use Rattle.station.specs.Visit.{Visit}
 use Rattle.station.specs.EveryArrival.{visit}
 use Rattle.station.specs.Steps.{reachOf, reachAfter}
@@ -12,31 +13,31 @@ use Rattle.station.proofs.forwarding.forward.Statement.{statement}
 use Rattle.station.proofs.forwarding.forward.Tie as tie
 
 abbrev the-visit : tie.Start → Visit
-the-visit c = visit (c .args .rec) (c .args .t)
+the-visit c = visit (recordIn (c .args .h) (c .args .s .now)) (c .args .t)
 
 reaches : (c : tie.Start) (r : Reach)
-    → r ≡ reachAfter (c .args .rec .own) (c .args .b .log .level) (record { 0 = c .args .t .highest .0 + c .args .b .news }) (c .args .t .aru) (c .args .t .blocker)
+    → r ≡ reachAfter (c .args .h .own) (c .args .b .log .level) (record { 0 = c .args .t .highest .0 + c .args .b .news }) (c .args .t .aru) (c .args .t .blocker)
     → r ≡ reachOf (the-visit c)
 reaches c r e = reached (the-visit c) (c .pre .0) (c .args .b) (c .pre .1) r _ refl e
 
-add-t13 : tie.Need-add-t13
-add-t13 c =
-    let start = c .before .before in
+add-t14 : tie.Need-add-t14
+add-t14 c =
+    let start = c .before .before .before in
     omega (arith, highest-fits (the-visit start) (start .pre .0) _ (start .pre .1))
 
 requests-after-requires : tie.Need-requests-after-requires
 requests-after-requires c κs =
-    let start = c .before .before .before .before .before in
+    let start = c .before .before .before .before .before .before in
     (start .pre .0, start .pre .1, marked (the-visit start) (start .pre .0) _ (reaches start _ (c .before .before .reach-after .ensures)) _ (c .safe-after .ensures))
 
 token-after-requires : tie.Need-token-after-requires
 token-after-requires c κs =
-    let start = c .before .before .before .before .before .before in
+    let start = c .before .before .before .before .before .before .before in
     (start .pre .0, start .pre .1, reaches start _ (c .before .before .before .reach-after .ensures), c .requests-after .ensures)
 
 turn-after-requires : tie.Need-turn-after-requires
 turn-after-requires c κs =
-    let start = c .before .before .before .before .before .before .before in
+    let start = c .before .before .before .before .before .before .before .before in
     let v = the-visit start in (
       start .pre .0,
       c .token-after .ensures,
@@ -46,12 +47,12 @@ turn-after-requires c κs =
 
 returns : tie.Need-returns
 returns c =
-    let start = c .before .before .before .before .before .before .before .before .before in
+    let start = c .before .before .before .before .before .before .before .before .before .before in
     forwarded (the-visit start) (start .pre .0) _ (reaches start _ (c .before .before .before .before .before .before .reach-after .ensures)) _ _ _ _
     (c .before .turn-after .ensures) (c .before .before .before .before .safe-after .ensures) (c .before .before .before .before .before .stall-after .ensures) (c .deaf-after .ensures)
 
 pub forward-spec : {M : Type 1} → statement M
 forward-spec =
     tie.close
-    (tie.spec add-t13 (λ c κs. search needs) (λ c κs. search needs) (λ c κs. search needs) requests-after-requires
+    (tie.spec add-t14 (λ c κs. search needs) (λ c κs. search needs) (λ c κs. search needs) requests-after-requires
     token-after-requires turn-after-requires (λ c κs. search needs) returns)

@@ -1,80 +1,103 @@
-use mathlib.Core.Path.{sym, _∙_}
+use mathlib.Core.Path.{_≡_, refl, sym, ap, _∙_}
+use native.Mathlib.Omega.{arith}
 use borrow.Author.Needs.{needs}
-use Rattle.station.proofs.HearLaws.{marks-most, content-short, own-writable, kept-writable, handed-short, heard-had, heard-ahead, heard-kept}
+use Rattle.record.specs.Head.{logOn, postsOn, recordIn, contentsIn}
+use Rattle.record.specs.Layout.{logAt}
+use Rattle.record.specs.declared.Record.{Record}
+use Rattle.station.specs.declared.answer.Answer.the-variants.{Kept, Had, Ahead}
+use Rattle.station.proofs.HearLaws.{marks-most, content-short, own-writable, kept-writable, handed-short, handed-most, leaves-told, is-heard-had, is-heard-ahead, is-heard-kept}
 use Rattle.station.proofs.FrameLaws.{Writable}
 use Rattle.station.proofs.KeptLaws.{just-kept}
 use Rattle.station.proofs.hearing.hear.Statement.{statement}
 use Rattle.station.proofs.hearing.hear.Tie as tie
 
+abbrev the-record : tie.Start → Record
+the-record c = recordIn (c .args .h) (c .args .s .now)
+
+own : (c : tie.Start) → Writable (the-record c .log)
+own c = own-writable _ _ _ (c .pre .0)
+
 is-had-requires : tie.Need-is-had-requires
-is-had-requires c κs = marks-most _ _ _ (c .before .before .before .pre .0) .0
+is-had-requires c κs = marks-most _ _ _ (c .before .before .before .before .pre .0) .0
 
 hand-out-requires : tie.Need-hand-out-requires
 hand-out-requires c κs =
-    let start = c .before .before .before .before .before .before in
-    let w = own-writable _ _ _ (start .pre .0) in
-    (w .log, w .header, start .pre .1)
+    let start = c .before .before .before .before .before .before .before .before .before in
+    rw (c .before .contents-in .ensures) (own start .log, own start .header, start .pre .2)
 
 tell-requires : tie.Need-tell-requires
-tell-requires c κs = handed-short _ _ (c .before .before .hand-out .ensures .0) (own-writable _ _ _ (c .before .before .before .before .before .before .before .before .before .pre .0))
+tell-requires c κs =
+    let start = c .before .before .before .before .before .before .before .before .before .before .before .before .before in
+    let hands = rw (c .before .before .before .before .before .contents-in .ensures) at (c .before .before .before .hand-out .ensures) in
+    (handed-short (start .args .h .log) _ _ _ _ hands (own start), handed-most (start .args .h .log) _ _ _ _ hands (own start), start .pre .1)
 
 returns : tie.Need-returns
 returns c =
-    let start = c .before .before .before .before .before .before .before .before .before .before .before in
-    heard-had (start .args .rec) (start .args .m) _ _ (c .before .before .before .before .before .before .before .is-had .ensures) _ _ (c .before .tell .ensures) _ _
-    (c .before .before .before .before .before .before .if1 .taken) (c .before .before .before .before .hand-out .ensures)
+    let start = c .before .before .before .before .before .before .before .before .before .before .before .before .before .before .before .before in
+    leaves-told (start .args .h) (start .args .s .now) _ (c .before .before .before .before .before .before .before .before .contents-in .ensures) (start .args .h .log) _ _ _ _ _ (c .before .before .before .before .before .before .hand-out .ensures) (c .before .before .tell .ensures) _ (λ n. Had n)
+    (is-heard-had (the-record start) (start .args .m) (start .args .content .now) _ (c .before .before .before .before .before .before .before .before .before .before .before .is-had .ensures _) (c .before .before .before .before .before .before .before .before .before .before .if1 .taken))
 
 is-ahead-requires : tie.Need-is-ahead-requires
-is-ahead-requires c κs = marks-most _ _ _ (c .before .before .before .before .before .pre .0) .0
+is-ahead-requires c κs = marks-most _ _ _ (c .before .before .before .before .before .before .pre .0) .0
 
 hand-out-requires-2 : tie.Need-hand-out-requires-2
 hand-out-requires-2 c κs =
-    let start = c .before .before .before .before .before .before .before .before in
-    let w = own-writable _ _ _ (start .pre .0) in
-    (w .log, w .header, start .pre .1)
+    let start = c .before .before .before .before .before .before .before .before .before .before .before in
+    rw (c .before .contents-in2 .ensures) (own start .log, own start .header, start .pre .2)
 
 tell-requires-2 : tie.Need-tell-requires-2
-tell-requires-2 c κs = handed-short _ _ (c .before .before .hand-out2 .ensures .0) (own-writable _ _ _ (c .before .before .before .before .before .before .before .before .before .before .before .pre .0))
+tell-requires-2 c κs =
+    let start = c .before .before .before .before .before .before .before .before .before .before .before .before .before .before .before in
+    let hands = rw (c .before .before .before .before .before .contents-in2 .ensures) at (c .before .before .before .hand-out2 .ensures) in
+    (handed-short (start .args .h .log) _ _ _ _ hands (own start), handed-most (start .args .h .log) _ _ _ _ hands (own start), start .pre .1)
 
 returns-2 : tie.Need-returns-2
 returns-2 c =
-    let start = c .before .before .before .before .before .before .before .before .before .before .before .before .before in
-    heard-ahead (start .args .rec) (start .args .m) _ _ (c .before .before .before .before .before .before .before .before .before .is-had .ensures) _ _ (c .before .tell2 .ensures) _ _
-    (c .before .before .before .before .before .before .before .before .if1 .left) _ (c .before .before .before .before .before .before .before .is-ahead .ensures) (c .before .before .before .before .before .before .if2 .taken) (c .before .before .before .before .hand-out2 .ensures)
+    let start = c .before .before .before .before .before .before .before .before .before .before .before .before .before .before .before .before .before .before in
+    leaves-told (start .args .h) (start .args .s .now) _ (c .before .before .before .before .before .before .before .before .contents-in2 .ensures) (start .args .h .log) _ _ _ _ _ (c .before .before .before .before .before .before .hand-out2 .ensures) (c .before .before .tell2 .ensures) _ (λ n. Ahead n)
+    (is-heard-ahead (the-record start) (start .args .m) (start .args .content .now) _ (c .before .before .before .before .before .before .before .before .before .before .before .before .before .is-had .ensures _) (c .before .before .before .before .before .before .before .before .before .before .before .before .if1 .left) _ (c .before .before .before .before .before .before .before .before .before .before .before .is-ahead .ensures (contentsIn (start .args .s .now) logAt)) (c .before .before .before .before .before .before .before .before .before .before .if2 .taken))
 
 keep-requires : tie.Need-keep-requires
 keep-requires c κs =
-    let start = c .before .before .before .before .before .before .before in
+    let start = c .before .before .before .before .before .before .before .before .before in
     let most = marks-most _ _ _ (start .pre .0) in
-    (most .0, most .1, content-short _ _ _ (start .pre .0))
+    (most .0, most .1, start .pre .1, content-short _ _ _ (start .pre .0))
 
--- at the call that hands out what was kept
-kept : (c : tie.After-keep) → Writable (c .keep .result)
+-- the log once the message is kept
+kept : (c : tie.After-keep) → Writable (logOn (c .keep .result) (contentsIn (c .keep .last .1 .0) logAt))
 kept c =
-    let start = c .before .before .before .before .before .before .before .before in
-    kept-writable _ _ _ (start .pre .0) _
-    (sym (c .before .before .before .before .is-had .ensures) ∙ c .before .before .before .if1 .left)
-    (sym (c .before .before .is-ahead .ensures) ∙ c .before .if2 .left)
-    (c .keep .ensures)
+    let start = c .before .before .before .before .before .before .before .before .before .before in
+    kept-writable (the-record start) (start .args .m) (start .args .content .now) (start .pre .0) _
+    (sym (c .before .before .before .before .before .is-had .ensures _) ∙ c .before .before .before .before .if1 .left)
+    (sym (c .before .before .before .is-ahead .ensures (contentsIn (start .args .s .now) logAt)) ∙ c .before .before .if2 .left)
+    (c .keep .ensures .0)
+
+contents-in-requires-3 : tie.Need-contents-in-requires-3
+contents-in-requires-3 c κs = let long = c .before .before .before .keep .kept .1 .0 in omega (arith, long, c .before .before .before .before .before .before .before .before .before .before .before .before .before .pre .1)
 
 hand-out-kept-requires : tie.Need-hand-out-kept-requires
 hand-out-kept-requires c κs =
-    let start = c .before .before .before .before .before .before .before .before .before in
-    let w = kept (c .before) in
-    (w .log, w .header, rw (c .before .keep .ensures) (just-kept _ _ _ (start .pre .0)), start .pre .1)
+    let start = c .before .before .before .before .before .before .before .before .before .before .before .before .before .before .before in
+    let w = kept (c .before .before .before .before .before) in
+    rw (c .before .contents-in3 .ensures) (w .log, w .header, rw (c .before .before .before .before .before .keep .ensures .0) (just-kept (the-record start) (start .args .m) (start .args .content .now) (start .pre .0)), start .pre .2)
 
 tell-requires-3 : tie.Need-tell-requires-3
-tell-requires-3 c κs = handed-short _ _ (c .before .before .hand-out-kept .ensures .0) (kept (c .before .before .before .before))
+tell-requires-3 c κs =
+    let start = c .before .before .before .before .before .before .before .before .before .before .before .before .before .before .before .before .before .before .before in
+    let hands = rw (c .before .before .before .before .before .contents-in3 .ensures) at (c .before .before .before .hand-out-kept .ensures) in
+    (handed-short (c .before .before .before .before .before .before .before .before .before .keep .result) _ _ _ _ hands (kept (c .before .before .before .before .before .before .before .before .before)), handed-most (c .before .before .before .before .before .before .before .before .before .keep .result) _ _ _ _ hands (kept (c .before .before .before .before .before .before .before .before .before)), c .before .before .before .before .before .before .before .before .before .keep .kept .1 .0 ∙ start .pre .1)
 
 returns-3 : tie.Need-returns-3
 returns-3 c =
-    let start = c .before .before .before .before .before .before .before .before .before .before .before .before .before .before in
-    heard-kept (start .args .rec) (start .args .m) _ _ (c .before .before .before .before .before .before .before .before .before .before .is-had .ensures) _ _ (c .before .tell3 .ensures) _ _
-    (c .before .before .before .before .before .before .before .before .before .if1 .left) _ (c .before .before .before .before .before .before .before .before .is-ahead .ensures) _ (c .before .before .before .before .before .before .before .if2 .left) (c .before .before .before .before .before .before .keep .ensures) (c .before .before .before .before .hand-out-kept .ensures)
+    let start = c .before .before .before .before .before .before .before .before .before .before .before .before .before .before .before .before .before .before .before .before .before .before in
+    let s = c .before .before .before .before .before .before .before .before .before .before .before .before .keep .last .1 .0 in
+    leaves-told (start .args .h) s _ (c .before .before .before .before .before .before .before .before .contents-in3 .ensures) (c .before .before .before .before .before .before .before .before .before .before .before .before .keep .result) _ _ _ _ _ (c .before .before .before .before .before .before .hand-out-kept .ensures) (c .before .before .tell3 .ensures) _ (λ n. Kept n)
+    (is-heard-kept (the-record start) (start .args .m) (start .args .content .now) _ (c .before .before .before .before .before .before .before .before .before .before .before .before .before .before .before .before .before .is-had .ensures _) (c .before .before .before .before .before .before .before .before .before .before .before .before .before .before .before .before .if1 .left) _ (c .before .before .before .before .before .before .before .before .before .before .before .before .before .before .before .is-ahead .ensures (contentsIn (start .args .s .now) logAt)) (c .before .before .before .before .before .before .before .before .before .before .before .before .before .before .if2 .left)
+    (recordIn (start .args .h) s) _ (refl, refl, ap (postsOn (start .args .h .posts)) (c .before .before .before .before .before .before .before .before .before .before .before .before .keep .ensures .1)) (c .before .before .before .before .before .before .before .before .before .before .before .before .keep .ensures .0))
 
 pub hear-spec : {M : Type 1} → statement M
 hear-spec =
     tie.close
-    (tie.spec is-had-requires hand-out-requires tell-requires (λ c. search needs) returns is-ahead-requires
-    hand-out-requires-2 tell-requires-2 (λ c. search needs) returns-2 keep-requires hand-out-kept-requires
-    tell-requires-3 (λ c. search needs) returns-3)
+    (tie.spec is-had-requires (λ c κs. search needs) hand-out-requires tell-requires (λ c. search needs) (λ c. search needs) returns is-ahead-requires
+    (λ c κs. search needs) hand-out-requires-2 tell-requires-2 (λ c. search needs) (λ c. search needs) returns-2 keep-requires contents-in-requires-3 hand-out-kept-requires
+    tell-requires-3 (λ c. search needs) (λ c. search needs) returns-3)

@@ -14,7 +14,7 @@ part-representative-of-end : tie.Need-part-representative-of-end
 part-representative-of-end c = let start = c .before .before .before .before in omega (arith, long start, start .pre)
 
 returns : tie.Need-returns
-returns c = rw (c .representative-of .ensures, sub-zero)
+returns c = λ contents. rw (c .representative-of .ensures, sub-zero)
 
 pub ring-header-spec : {M : Type 1} → statement M
 ring-header-spec =

@@ -1,64 +1,72 @@
-use Prim.Native.Nat.{_-_}
+use Prim.Native.Nat.{ℕ, _-_}
 use mathlib.Core.Path.{sym, ap, _∙_}
+use mathlib.Core.List.{List, []}
 use lib.ListN.{length}
 use mathlib.Core.Logic.{⊎-elim}
 use mathlib.Core.Bool.{not}
 use borrow.Author.Needs.{needs}
+use Rattle.record.specs.Head.{logOn}
 use Rattle.record.specs.Held.{holds}
 use Rattle.station.proofs.ListedLaws.{Gathered, gathered-none, gathered-few, gathered-takes, gathered-leaves, gathered-all}
 use Rattle.station.proofs.requests.sift.Statement.{statement}
 use Rattle.station.proofs.requests.sift.Tie as tie
 
 abbrev Inv-loop : tie.InvT-loop
-Inv-loop l requests held₀ rest₀ i₀ held rest i = Gathered (holds l) requests i held × Gathered (λ n. not (holds l n)) requests i rest
+Inv-loop l requests senders held₀ rest₀ i₀ held rest i =
+    (contents : List ℕ) → Gathered (holds (logOn l contents)) requests i held × Gathered (λ n. not (holds (logOn l contents) n)) requests i rest
 
 abbrev μ-loop : tie.MeasureT-loop
-μ-loop l requests held₀ rest₀ i₀ held rest i = length requests - i
+μ-loop l requests senders held₀ rest₀ i₀ held rest i = length requests - i
 
 loop-holds : tie.Need-loop-holds Inv-loop μ-loop
-loop-holds c = (gathered-none _ _ (c .before .none-listed .ensures), gathered-none _ _ (c .none-listed2 .ensures))
+loop-holds c = λ contents. (gathered-none _ _ (c .before .none-listed .ensures), gathered-none _ _ (c .none-listed2 .ensures))
 
-add-requires : tie.Need-add-requires Inv-loop μ-loop
-add-requires c κs = gathered-few _ _ _ _ (c .before .before .before .before .loop .inv .0) (c .before .before .before .loop-test .taken) (c .before .before .before .before .before .before .before .before .pre .1)
+cast-place : tie.Need-cast-place Inv-loop μ-loop
+cast-place c = let few = gathered-few _ _ _ _ (c .before .before .before .before .before .loop .inv [] .0) (c .before .before .before .before .loop-test .taken) (c .before .before .before .before .before .before .before .before .before .before .pre .1) in search needs
 
-add-requires-2 : tie.Need-add-requires-2 Inv-loop μ-loop
-add-requires-2 c κs = gathered-few _ _ _ _ (c .before .before .before .before .loop .inv .1) (c .before .before .before .loop-test .taken) (c .before .before .before .before .before .before .before .before .pre .1)
+mul-held : tie.Need-mul-held Inv-loop μ-loop
+mul-held c = let few = gathered-few _ _ _ _ (c .before .before .before .before .before .loop .inv [] .0) (c .before .before .before .before .loop-test .taken) (c .before .before .before .before .before .before .before .before .before .before .pre .1) in search needs
+
+element-write-held : tie.Need-element-write-held Inv-loop μ-loop
+element-write-held c = let few = gathered-few _ _ _ _ (c .before .before .before .before .before .loop .inv [] .0) (c .before .before .before .before .loop-test .taken) (c .before .before .before .before .before .before .before .before .before .before .pre .1) in search needs
+
+add-held : tie.Need-add-held Inv-loop μ-loop
+add-held c = let few = gathered-few _ _ _ _ (c .before .before .before .before .before .loop .inv [] .0) (c .before .before .before .before .loop-test .taken) (c .before .before .before .before .before .before .before .before .before .before .pre .1) in search needs
+
+cast-place-2 : tie.Need-cast-place-2 Inv-loop μ-loop
+cast-place-2 c = let few = gathered-few _ _ _ _ (c .before .before .before .before .before .loop .inv [] .1) (c .before .before .before .before .loop-test .taken) (c .before .before .before .before .before .before .before .before .before .before .pre .1) in search needs
+
+mul-rest : tie.Need-mul-rest Inv-loop μ-loop
+mul-rest c = let few = gathered-few _ _ _ _ (c .before .before .before .before .before .loop .inv [] .1) (c .before .before .before .before .loop-test .taken) (c .before .before .before .before .before .before .before .before .before .before .pre .1) in search needs
+
+element-write-rest : tie.Need-element-write-rest Inv-loop μ-loop
+element-write-rest c = let few = gathered-few _ _ _ _ (c .before .before .before .before .before .loop .inv [] .1) (c .before .before .before .before .loop-test .taken) (c .before .before .before .before .before .before .before .before .before .before .pre .1) in search needs
+
+add-rest : tie.Need-add-rest Inv-loop μ-loop
+add-rest c = let few = gathered-few _ _ _ _ (c .before .before .before .before .before .loop .inv [] .1) (c .before .before .before .before .loop-test .taken) (c .before .before .before .before .before .before .before .before .before .before .pre .1) in search needs
 
 loop-again : tie.Need-loop-again Inv-loop μ-loop
-loop-again c =
-    let at = c .before .before .before .before .loop in
-    let more = c .before .before .before .loop-test .taken in
-    let few = c .before .before .before .before .before .before .before .before .pre .1 in
+unfolding holds
+loop-again c = λ contents.
+    let at = c .before .before .before .before .before .loop .inv contents in
+    let more = c .before .before .before .before .loop-test .taken in
+    let few = c .before .before .before .before .before .before .before .before .before .before .pre .1 in
     let known = sym (c .before .is-held .ensures) in
     ⊎-elim
     (λ w. (
-      gathered-takes _ _ _ _ (at .inv .0) more few (known ∙ w .0 .taken) (w .2 ∙ w .1 .ensures),
-      gathered-leaves _ _ _ _ (at .inv .1) more few (ap not (known ∙ w .0 .taken)) (w .3),
+      gathered-takes _ _ _ _ (at .0) more few (known ∙ w .0 .taken) (w .1),
+      gathered-leaves _ _ _ _ (at .1) more few (ap not (known ∙ w .0 .taken)) (w .2),
     ))
     (λ w. (
-      gathered-leaves _ _ _ _ (at .inv .0) more few (known ∙ w .0 .left) (w .2),
-      gathered-takes _ _ _ _ (at .inv .1) more few (ap not (known ∙ w .0 .left)) (w .3 ∙ w .1 .ensures),
+      gathered-leaves _ _ _ _ (at .0) more few (known ∙ w .0 .left) (w .1),
+      gathered-takes _ _ _ _ (at .1) more few (ap not (known ∙ w .0 .left)) (w .2),
     ))
     (c .if1 .came)
 
 returns : tie.Need-returns Inv-loop μ-loop
-returns c = rw (gathered-all _ _ _ _ (c .before .loop .inv .0) (c .loop-test .left), gathered-all _ _ _ _ (c .before .loop .inv .1) (c .loop-test .left))
+returns c = λ contents. rw (gathered-all _ _ _ _ (c .before .loop .inv contents .0) (c .loop-test .left), gathered-all _ _ _ _ (c .before .loop .inv contents .1) (c .loop-test .left))
 
 pub sift-spec : {M : Type 1} → statement M
 sift-spec =
     tie.close
-    (tie.spec
-    Inv-loop
-    μ-loop
-    (λ c κs. search needs)
-    (λ c κs. search needs)
-    loop-holds
-    (λ c. search needs)
-    (λ c. search needs)
-    (λ c κs. search needs)
-    add-requires
-    add-requires-2
-    (λ c. search needs)
-    (λ c. search needs)
-    loop-again
-    returns)
+    (tie.spec Inv-loop μ-loop (λ c κs. search needs) (λ c κs. search needs) loop-holds (λ c. search needs) (λ c. search needs) (λ c κs. search needs) cast-place mul-held element-write-held add-held cast-place-2 mul-rest element-write-rest add-rest (λ c. search needs) (λ c. search needs) loop-again returns)

@@ -1,67 +1,64 @@
-use Prim.Native.Nat.{ℕ, _+_, _-_, _≤_}
-use mathlib.Core.Path.{_≡_}
-use mathlib.Core.List.{List}
+use mathlib.Core.Path.{_≡_, refl, ap, _∙_}
 use native.Mathlib.Omega.{arith}
-use lib.ListN.{length, drop, length-take, length-drop}
-use lib.Seq.{sets}
 use borrow.Author.Needs.{needs}
-use Rattle.frames.specs.Layout.{longestToken}
-use Rattle.record.specs.Turn.{remembered}
-use Rattle.station.specs.Deliver.{joined}
-use Rattle.station.specs.Visit.{Visit, accepted}
+use Rattle.record.specs.Bytes.{recordBytes}
+use Rattle.record.specs.Head.{postsOn, recordIn}
+use Rattle.record.specs.declared.Record.{Record}
+use Rattle.station.specs.Visit.{Visit}
 use Rattle.station.specs.EveryArrival.{visit}
-use Rattle.station.specs.Steps.{sentFrames, sentOf, forwardedOf}
-use Rattle.station.specs.declared.broadcasting.Sent.{Sent}
-use Rattle.station.specs.declared.forwarding.Forwarded.{Forwarded}
-use Rattle.station.proofs.PutFrames.{part-put}
-use Rattle.station.proofs.Leave.{token-room, token-fits, remembered-room, all-written}
+use Rattle.station.proofs.VisitReads.{written-fits}
+use Rattle.station.proofs.Leave.{news-fit, leave-ready, told-fits, left, left-record, told, all-written}
 use Rattle.station.proofs.visiting.accept.Statement.{statement}
 use Rattle.station.proofs.visiting.accept.Tie as tie
 
 abbrev the-visit : tie.Start → Visit
-the-visit c = visit (c .args .rec) (c .args .t)
+the-visit c = visit (recordIn (c .args .h) (c .args .s .now)) (c .args .t)
 
-room : (c : tie.Start) (b : Sent)
-    → b ≡ sentOf (the-visit c)
-    → (f : Forwarded)
-    → f ≡ forwardedOf (the-visit c)
-    → (out : List ℕ)
-    → out ≡ sets (c .args .frames .now) 0 (joined (sentFrames (the-visit c)))
-    → b .size + longestToken ≤ length out
-room c b sends f forwards out puts = token-room (the-visit c) (c .pre .0) b sends f forwards (c .args .frames .now) out (c .pre .1) puts
+broadcast-requires : tie.Need-broadcast-requires
+broadcast-requires c κs = let start = c .before .before .before .before .before in (start .pre .0, omega (arith, start .pre .1), start .pre .2)
 
-sub-put-remembered : tie.Need-sub-put-remembered
-sub-put-remembered c = omega (arith, room (c .before .before .before .before .before .before .before) _ (c .before .before .before .broadcast .ensures .0) _ (c .forward .ensures) _ (c .before .before .before .broadcast .ensures .1))
+send-news-requires : tie.Need-send-news-requires
+send-news-requires c κs =
+    let start = c .before .before .before .before .before .before .before .before .before .before .before .before in
+    (start .pre .0, c .before .before .before .before .before .before .broadcast .ensures .0, c .before .before .forward .ensures, start .pre .1, omega (arith, c .before .before .before .before .before .before .broadcast .kept .1 .1 .1 .0, start .pre .2))
 
-part-put-remembered-start : tie.Need-part-put-remembered-start
-part-put-remembered-start c = omega (arith, room (c .before .before .before .before .before .before .before) _ (c .before .before .before .broadcast .ensures .0) _ (c .forward .ensures) _ (c .before .before .before .broadcast .ensures .1))
+cast-leave : tie.Need-cast-leave
+cast-leave c =
+    let start = c .before .before .before .before .before .before .before .before .before .before .before .before .before .before .before .before .before .before .before .before .before .before in
+    omega (arith, news-fit (the-visit start) (start .pre .0) _ (c .before .before .before .before .before .before .before .before .before .before .before .before .before .before .before .before .broadcast .ensures .0))
 
-put-remembered-requires : tie.Need-put-remembered-requires
-put-remembered-requires c κs =
-    let start = c .before .before .before .before .before .before .before .before in
-    let sends = c .before .before .before .before .broadcast .ensures in
-    let out = c .before .before .before .before .broadcast .last .1 .1 .0 in
-    let at = c .before .before .before .before .broadcast .result .size in (
-      token-fits (the-visit start) (start .pre .0) _ (sends .0) _ (c .before .forward .ensures),
-      omega (arith, room start _ (sends .0) _ (c .before .forward .ensures) _ (sends .1), length-take (length out - at) (drop at out), length-drop at out),
-    )
+leave-requires : tie.Need-leave-requires
+leave-requires c κs =
+    let start = c .before .before .before .before .before .before .before .before .before .before .before .before .before .before .before .before .before .before .before .before .before .before .before in
+    let ready = leave-ready (the-visit start) (start .pre .0) _ (c .before .before .before .before .before .before .before .before .before .before .before .before .before .before .before .before .before .broadcast .ensures .0) _ (c .before .before .before .before .before .before .before .before .before .before .before .before .before .forward .ensures) _ (c .before .before .before .before .before .before .before .before .before .before .send-news .ensures .1) in
+    (c .before .before .before .before .before .before .before .before .before .before .send-news .kept .1 .0 ∙ start .pre .1, ready .0, ready .1, ready .2, ready .3, ready .4, ready .5, start .pre .3)
+
+cast-t29 : tie.Need-cast-t29
+cast-t29 c =
+    let start = c .before .before .before .before .before .before .before .before .before .before .before .before .before .before .before .before .before .before .before .before .before .before .before .before .before .before .before .before in
+    omega (arith, c .before .before .before .before .before .before .before .before .before .before .before .before .before .before .before .send-news .ensures .0, written-fits (the-visit start) (start .pre .0))
+
+cast-t30 : tie.Need-cast-t30
+cast-t30 c =
+    let start = c .before .before .before .before .before .before .before .before .before .before .before .before .before .before .before .before .before .before .before .before .before .before .before .before .before .before .before .before in
+    omega (arith, told-fits (the-visit start) (start .pre .0) _ (c .before .before .before .before .before .before .before .before .before .before .before .before .before .before .before .before .before .before .before .before .before .before .broadcast .ensures .0) _ (c .before .before .before .before .before .before .before .before .before .before .before .before .before .before .before .before .before .before .forward .ensures) _ (c .before .before .before .before .before .before .before .before .before .before .before .before .before .before .before .send-news .ensures .1) _ (c .before .before .before .before .leave .ensures .0))
 
 returns : tie.Need-returns
-unfolding accepted
 returns c =
-    let start = c .before .before .before .before .before .before .before .before .before .before .before .before .before .before .before in
-    let sends = c .before .before .before .before .before .before .before .before .before .before .before .broadcast .ensures in
-    let forwards = c .before .before .before .before .before .before .before .before .forward .ensures in
-    let leaves = c .before .before .leave .ensures in
-    let v = the-visit start in (
-      leaves .0,
-      all-written v (start .pre .0) _ (sends .0) _ forwards _ _ (start .pre .1) (sends .1) _
-          (part-put (remembered (c .before .before .before .before .before .before .before .before .forward .result .turn)) _ _ _ (remembered-room v (start .pre .0) _ (sends .0) _ forwards _ _ (start .pre .1) (sends .1)) (c .before .before .before .before .before .before .put-remembered .ensures)),
-      leaves .1,
+    let start = c .before .before .before .before .before .before .before .before .before .before .before .before .before .before .before .before .before .before .before .before .before .before .before .before .before .before .before .before in
+    let v = the-visit start in
+    let a = start .pre .0 in
+    let sends = c .before .before .before .before .before .before .before .before .before .before .before .before .before .before .before .before .before .before .before .before .before .before .broadcast .ensures in
+    let forwards = c .before .before .before .before .before .before .before .before .before .before .before .before .before .before .before .before .before .before .forward .ensures in
+    let news = c .before .before .before .before .before .before .before .before .before .before .before .before .before .before .before .send-news .ensures in
+    let leaves = c .before .before .before .before .leave .ensures in (
+      left v a _ (sends .0) _ forwards _ (news .1) _ _ (news .0) (leaves .0),
+      leaves .1 ∙ ap recordBytes (left-record v a _ (sends .0) _ forwards _ (news .1) _ (ap (postsOn (start .args .h .posts)) (news .2))),
+      all-written v a _ (sends .0) _ _ _ (start .pre .2) (sends .1) (news .3),
+      told v a _ (sends .0) _ forwards _ (news .1) _ _ (leaves .2),
     )
 
 pub accept-spec : {M : Type 1} → statement M
 accept-spec =
     tie.close
-    (tie.spec (λ c κs. search needs) (λ c κs. search needs) sub-put-remembered part-put-remembered-start
-    (λ c. search needs) put-remembered-requires (λ c κs. search needs) (λ c. search needs) (λ c. search needs) returns)
+    (tie.spec broadcast-requires (λ c κs. search needs) send-news-requires cast-leave leave-requires cast-t29 cast-t30 (λ c. search needs) (λ c. search needs) (λ c. search needs) returns)

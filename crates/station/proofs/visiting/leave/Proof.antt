@@ -1,61 +1,47 @@
+use mathlib.Core.Path.{_≡_, _∙_}
 use native.Mathlib.Omega.{arith}
+use lib.ListN.{length}
 use borrow.Author.Needs.{needs}
-use Rattle.station.specs.Visit.{Visit}
-use Rattle.station.specs.EveryArrival.{visit}
-use Rattle.station.proofs.Leave.{hand-ready, take-ready, news-fit, frames-fit, deliveries-fit, go-ready, left, told}
+use Rattle.record.specs.Head.{recordIn}
+use Rattle.record.specs.Layout.{recordSize}
+use Rattle.station.proofs.DueCount.{due-fits}
+use Rattle.station.proofs.LeftLaws.{stored-left}
 use Rattle.station.proofs.visiting.leave.Statement.{statement}
 use Rattle.station.proofs.visiting.leave.Tie as tie
 
-abbrev the-visit : tie.Start → Visit
-the-visit c = visit (c .args .rec) (c .args .t)
-
 hand-out-requires : tie.Need-hand-out-requires
 hand-out-requires c κs =
-    let start = c .before .before in
-    let ready = hand-ready (the-visit start) (start .pre .0) _ (start .pre .1) in
-    (ready .0, ready .1, start .pre .3)
-
-let-go-requires : tie.Need-let-go-requires
-let-go-requires c κs =
     let start = c .before .before .before .before .before in
-    go-ready (the-visit start) (start .pre .0) _ (start .pre .1) _ (start .pre .2) _ (c .before .before .hand-out .ensures .0)
+    rw (c .before .contents-in .ensures) (start .pre .1, start .pre .2, start .pre .7)
 
-cast-take-oldest : tie.Need-cast-take-oldest
-cast-take-oldest c =
-    let start = c .before .before .before .before .before .before .before .before in
-    omega (arith, news-fit (the-visit start) (start .pre .0) _ (start .pre .1))
+add-t18 : tie.Need-add-t18
+add-t18 c =
+    let start = c .before .before .before .before .before .before .before .before .before .before in
+    let hands = rw (c .before .before .before .before .before .before .contents-in .ensures) at (c .before .before .before .before .hand-out .ensures) in
+    omega (arith, due-fits (recordIn (start .args .h) (start .args .s .now) .log) _ _ (hands .0) (start .pre .1) .most)
 
-take-oldest-requires : tie.Need-take-oldest-requires
-take-oldest-requires c κs =
-    let start = c .before .before .before .before .before .before .before .before in
-    take-ready (the-visit start) (start .pre .0) _ (start .pre .1)
+let-go-in-requires : tie.Need-let-go-in-requires
+let-go-in-requires c κs = let start = c .before .before .before .before .before .before .before .before .before .before .before .before in (start .pre .0, start .pre .3, start .pre .4)
 
-add-t14 : tie.Need-add-t14
-add-t14 c =
-    let start = c .before .before .before .before .before .before .before .before .before .before .before in
-    omega (arith, frames-fit (the-visit start) (start .pre .0) _ (start .pre .1) _ (start .pre .2))
+take-oldest-in-requires : tie.Need-take-oldest-in-requires
+take-oldest-in-requires c κs =
+    let start = c .before .before .before .before .before .before .before .before .before .before .before .before .before .before .before .before in
+    (c .before .before .before .let-go-in .kept .1 .0 ∙ start .pre .0, start .pre .5, start .pre .6)
 
-cast-t15 : tie.Need-cast-t15
-cast-t15 c =
-    let start = c .before .before .before .before .before .before .before .before .before .before .before in
-    omega (arith, frames-fit (the-visit start) (start .pre .0) _ (start .pre .1) _ (start .pre .2))
-
-cast-t16 : tie.Need-cast-t16
-cast-t16 c =
-    let start = c .before .before .before .before .before .before .before .before .before .before .before .before in
-    omega (arith, deliveries-fit (the-visit start) (start .pre .0) _ (start .pre .1) _ (start .pre .2) _ (c .before .before .before .before .before .before .before .before .before .hand-out .ensures .0))
+put-head-requires : tie.Need-put-head-requires
+put-head-requires c κs = omega (arith, c .before .before .before .before .take-oldest-in .kept .1 .0, c .before .before .before .before .before .before .before .before .let-go-in .kept .1 .0, c .before .before .before .before .before .before .before .before .before .before .before .before .before .before .before .before .before .before .before .before .before .pre .0)
 
 returns : tie.Need-returns
 returns c =
-    let start = c .before .before .before .before .before .before .before .before .before .before .before .before in
-    let v = the-visit start in
-    let hands = c .before .before .before .before .before .before .before .before .before .hand-out .ensures in (
-      left v (start .pre .0) _ (start .pre .1) _ (start .pre .2) _ (hands .0) _ _ (c .before .before .before .before .before .before .let-go .ensures) (c .before .before .before .take-oldest .ensures),
-      told v (start .pre .0) _ (start .pre .1) _ (start .pre .2) _ (hands .0) _ _ (hands .1),
+    let start = c .before .before .before .before .before .before .before .before .before .before .before .before .before .before .before .before .before .before .before .before .before .before .before .before in
+    let hands = rw (c .before .before .before .before .before .before .before .before .before .before .before .before .before .before .before .before .before .before .before .before .contents-in .ensures) at (c .before .before .before .before .before .before .before .before .before .before .before .before .before .before .before .before .before .before .hand-out .ensures) in
+    let long : length (c .before .before .before .before .before .before .before .take-oldest-in .last .1 .0) ≡ recordSize = c .before .before .before .before .before .before .before .take-oldest-in .kept .1 .0 ∙ c .before .before .before .before .before .before .before .before .before .before .before .let-go-in .kept .1 .0 ∙ start .pre .0 in (
+      hands .1,
+      stored-left (start .args .h) (start .args .s .now) (c .before .before .before .before .before .before .before .before .before .before .before .let-go-in .last .1 .0) (c .before .before .before .before .before .before .before .take-oldest-in .last .1 .0) _ _ _ _ _ _ long (hands .0) (c .before .before .before .before .before .before .before .before .before .before .before .let-go-in .ensures) (c .before .before .before .before .before .before .before .take-oldest-in .ensures) (c .before .before .put-head .ensures),
+      hands .2,
     )
 
 pub leave-spec : {M : Type 1} → statement M
 leave-spec =
     tie.close
-    (tie.spec hand-out-requires let-go-requires cast-take-oldest take-oldest-requires (λ c. search needs) add-t14
-    cast-t15 cast-t16 (λ c. search needs) returns)
+    (tie.spec (λ c κs. search needs) hand-out-requires add-t18 let-go-in-requires take-oldest-in-requires put-head-requires (λ c. search needs) (λ c. search needs) returns)

@@ -1,0 +1,75 @@
+-- A part of a record's bytes that is lent comes back changed, and nothing else is.
+use Prim.Native.Nat.{ℕ, _+_, _*_, _-_, _<_, _≤_}
+use mathlib.Core.Path.{_≡_, sym, ap, _∙_}
+use mathlib.Core.List.{List, _++_, append-assoc}
+use native.Mathlib.Nat.{sub-zero}
+use native.Mathlib.Omega.{arith}
+use lib.ListN.{length, take, drop, length-drop, take-append-drop}
+use lib.Seq.{sets, sets-eq, length-take-le, take-append-le, drop-append-le, take-at, drop-drop}
+use Rattle.frames.specs.Layout.{mostContent}
+use Rattle.record.specs.Size.{mostPosts, heldContents, postContents}
+use Rattle.record.specs.Layout.{logAt, postsAt, heldMessagesAt, heldContentsAt, postContentsAt, recordSize}
+use Rattle.record.specs.Head.{contentsIn, waitingIn}
+use Rattle.record.proofs.ListLaws.{part-before, part-after, part-written}
+
+-- the part is stored where it stood
+back : (s w : List ℕ) (at : ℕ) → at + length w ≤ length s → take at s ++ (w ++ drop (length w) (drop at s)) ≡ sets s at w
+back s w at room = rw (drop-drop (length w) at s, sets-eq w s at room, append-assoc (take at s) w (drop (at + length w) s))
+
+pub contents-long : (s : List ℕ) → recordSize ≤ length s → length (contentsIn s logAt) ≡ heldContents
+contents-long s room = length-take-le heldContents (drop (logAt + heldMessagesAt + heldContentsAt) s) (rw length-drop (omega arith))
+
+pub waiting-long : (s : List ℕ) → recordSize ≤ length s → length (waitingIn s postsAt) ≡ postContents
+waiting-long s room = length-take-le postContents (drop (postsAt + postContentsAt) s) (rw length-drop (omega arith))
+
+module _ (s w : List ℕ) (size : length s ≡ recordSize) where
+  -- the contents of the held messages
+  abbrev withContents : List ℕ
+  withContents = take (logAt + heldMessagesAt + heldContentsAt) s ++ (w ++ drop heldContents (drop (logAt + heldMessagesAt + heldContentsAt) s))
+
+  module _ (long : length w ≡ heldContents) where
+    contents-back : withContents ≡ sets s (logAt + heldMessagesAt + heldContentsAt) w
+    contents-back = rw long at (back s w (logAt + heldMessagesAt + heldContentsAt) (omega (arith, size, long)))
+
+    pub contents-put : contentsIn withContents logAt ≡ w
+    contents-put = rw contents-back (rw long at (part-written (logAt + heldMessagesAt + heldContentsAt) w s (omega (arith, size, long))))
+
+    pub waiting-left : waitingIn withContents postsAt ≡ waitingIn s postsAt
+    waiting-left = rw contents-back (ap (take postContents) (part-after (postsAt + postContentsAt) (logAt + heldMessagesAt + heldContentsAt) w s (omega (arith, long))))
+
+  -- the contents of the waiting posts
+  abbrev withWaiting : List ℕ
+  withWaiting = take (postsAt + postContentsAt) s ++ (w ++ drop postContents (drop (postsAt + postContentsAt) s))
+
+  module _ (long : length w ≡ postContents) where
+    waiting-back : withWaiting ≡ sets s (postsAt + postContentsAt) w
+    waiting-back = rw long at (back s w (postsAt + postContentsAt) (omega (arith, size, long)))
+
+    pub waiting-put : waitingIn withWaiting postsAt ≡ w
+    waiting-put = rw waiting-back (rw long at (part-written (postsAt + postContentsAt) w s (omega (arith, size, long))))
+
+    pub contents-left : contentsIn withWaiting logAt ≡ contentsIn s logAt
+    contents-left = rw waiting-back (part-before heldContents (logAt + heldMessagesAt + heldContentsAt) (postsAt + postContentsAt) w s (omega arith))
+
+-- ---- a waiting post's content, copied to a held message's place
+
+-- bytes within the first n
+within : (m k n : ℕ) (l : List ℕ) → k + m ≤ n → n ≤ length l → take m (drop k (take n l)) ≡ take m (drop k l)
+within m k n l h room =
+    let front : length (take n l) ≡ n = length-take-le n l room in
+    let begins : take m (drop k (take n l ++ drop n l)) ≡ take m (drop k (take n l)) =
+    rw (drop-append-le k (take n l) (drop n l) (omega (arith, front))) (take-append-le m (drop k (take n l)) (drop n l) (rw length-drop (omega (arith, front)))) in
+    sym begins ∙ ap (λ (x : List ℕ). take m (drop k x)) (take-append-drop n l)
+
+pub content-copied : (s content rest : List ℕ) (post size : ℕ)
+    → length s ≡ recordSize
+    → post < mostPosts
+    → size ≤ mostContent
+    → content ≡ take size (drop (postsAt + postContentsAt + mostContent * post) s) ++ rest
+    → take (size - 0) content ≡ take size (drop (mostContent * post) (waitingIn s postsAt))
+content-copied s content rest post size long few short e =
+    let at = postsAt + postContentsAt in
+    let there : length (take size (drop (at + mostContent * post) s)) ≡ size = length-take-le size (drop (at + mostContent * post) s) (rw length-drop (omega (arith, long))) in
+    let same : take size (drop (at + mostContent * post) s) ≡ take size (drop (mostContent * post) (waitingIn s postsAt)) =
+    ap (take size) (sym (drop-drop (mostContent * post) at s)) ∙ sym (within size (mostContent * post) postContents (drop at s) (omega arith) (rw length-drop (omega (arith, long)))) in
+    rw (e, sub-zero) (take-at (take size (drop (at + mostContent * post) s)) rest size there ∙ same)
