@@ -12,7 +12,7 @@ use Rattle.record.specs.Whole.{whole}
 use Rattle.record.specs.declared.head.Head.{Head}
 use Rattle.record.specs.declared.Record.{Record}
 use Rattle.record.proofs.RoundTrip.{record-restored}
-use Rattle.station.specs.Reply.{Reply, doneOf, followedBy}
+use Rattle.station.specs.Reply.{doneOf, followedBy}
 use Rattle.station.specs.Arrive.{arrived}
 use Rattle.station.specs.Steps.{HeadIn}
 use Rattle.station.specs.declared.answer.Answer.{Answer}

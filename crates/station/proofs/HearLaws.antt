@@ -14,7 +14,7 @@ use Rattle.frames.specs.declared.number.MessageNumber.{MessageNumber}
 use Rattle.frames.proofs.Facts.{message-facts}
 use Rattle.record.specs.Size.{mostHeld}
 use Rattle.record.specs.Bytes.{recordBytes}
-use Rattle.record.specs.Head.{logOn, postsOn, headWith, headOf, recordIn, contentsIn, waitingIn}
+use Rattle.record.specs.Head.{logOn, postsOn, recordIn, contentsIn, waitingIn}
 use Rattle.record.specs.Held.{placeOf, holds, logWith, stored}
 use Rattle.record.specs.Layout.{logAt, postsAt}
 use Rattle.record.specs.declared.head.LogHead.{LogHead}

@@ -21,14 +21,13 @@ use Rattle.record.specs.Whole.{postsInRange}
 use Rattle.record.specs.declared.head.LogHead.{LogHead}
 use Rattle.record.specs.declared.log.Log.{Log}
 use Rattle.record.specs.declared.posts.Posts.{Posts}
-use Rattle.record.specs.declared.turn.Turn.{Turn}
 use Rattle.record.specs.declared.Record.{Record}
 use Rattle.record.proofs.RangeFacts.{posts-range}
 use Rattle.record.proofs.WholeFacts.{LogGood}
 use Rattle.station.specs.Reply.{followedBy, mostFrames, mostDeliveries}
 use Rattle.station.specs.Level.{raised}
 use Rattle.station.specs.Deliver.{ringHeader, frameOf, joined, handedOut, delivered}
-use Rattle.station.specs.Visit.{Visit, log, own, posts, withNews, numbersAfter, news, newCount, logNow, highest′, broadcasts, safe′, token′, turn′, log′, rec′, deaf, written, accepted}
+use Rattle.station.specs.Visit.{Visit, log, own, posts, withNews, numbersAfter, news, logNow, highest′, safe′, token′, turn′, log′, rec′, deaf, written, accepted}
 use Rattle.station.specs.EveryArrival.{Acceptable}
 use Rattle.station.specs.Steps.{repeatFrames, newFrames, sentFrames, sentOf, forwardedOf}
 use Rattle.station.specs.declared.answer.Answer.the-variants.{Accepted}

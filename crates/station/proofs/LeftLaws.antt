@@ -4,7 +4,6 @@ use mathlib.Core.Path.{_≡_, ap, _∙_}
 use mathlib.Core.List.{List, [], _++_, append-nil}
 use native.Mathlib.Omega.{arith}
 use lib.ListN.{length, drop, drop-of-length-le}
-use Rattle.frames.specs.declared.number.MessageNumber.{MessageNumber}
 use Rattle.record.specs.Bytes.{recordBytes}
 use Rattle.record.specs.Head.{logOn, postsOn, recordIn, contentsIn, waitingIn}
 use Rattle.record.specs.Held.{letGo}

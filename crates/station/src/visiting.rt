@@ -10,7 +10,7 @@ ghost use Rattle.frames.specs.Number.{mostNumber};
 ghost use Rattle.frames.specs.Header.{headerFollows};
 ghost use Rattle.frames.specs.Token.{tokenBytes};
 ghost use Rattle.record.specs.Bytes.{recordBytes};
-ghost use Rattle.record.specs.Head.{logOn, postsOn, recordIn, contentsIn, waitingIn};
+ghost use Rattle.record.specs.Head.{logOn, recordIn, contentsIn, waitingIn};
 ghost use Rattle.record.specs.Held.{letGo};
 ghost use Rattle.record.specs.Layout.{recordSize, logAt, postsAt};
 ghost use Rattle.record.specs.Posts.{taken};

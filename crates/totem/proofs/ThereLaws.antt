@@ -1,7 +1,7 @@
 -- Calls over C follow one another.
 use Prim.Native.Nat.{ℕ}
 use mathlib.Core.Path.{_≡_, refl, sym, _∙_, ap}
-use mathlib.Core.Bool.{Bool, true, false, false≢true}
+use mathlib.Core.Bool.{Bool, true, false}
 use mathlib.Core.List.{List, append-nil}
 use native.Mathlib.Omega.{arith}
 use lib.ListN.{length, drop-of-length-le}
@@ -16,9 +16,6 @@ use Rattle.station.specs.Reply.{Reply, doneOf}
 use Rattle.station.specs.EveryReply.{Good}
 use Rattle.station.proofs.ReplyGood.{posted-good, founded-whole}
 use Rattle.station.proofs.ArrivedGood.{arrived-good}
-use Rattle.station.specs.declared.refusal.Refusal.{Refusal}
-use Rattle.station.specs.declared.answer.Answer.{Answer}
-use Rattle.station.specs.declared.answer.Answer.the-variants.{Refused, Founded, Posted, Kept, Had, Ahead, Accepted, Resent}
 use Rattle.totem.specs.Over.{stationAfter, foundOver, postOver, arriveOver, PostedThere, ArrivedThere, FoundedThere}
 use Rattle.totem.proofs.OverLaws.{not-taken, post-whole, arrive-whole, whole-long}
 

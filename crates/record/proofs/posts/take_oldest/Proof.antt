@@ -1,8 +1,6 @@
 use native.Mathlib.Omega.{arith}
-use mathlib.Core.Path.{_≡_, _∙_}
-use lib.ListN.{length}
+use mathlib.Core.Path.{_∙_}
 use borrow.Author.Needs.{needs}
-use Rattle.record.specs.Size.{mostPosts}
 use Rattle.record.specs.Head.{postsOn}
 use Rattle.record.proofs.Arrays.{PostsArrays}
 use Rattle.record.proofs.TakeLaws.{none-taken, posts-taken, whole-stored}

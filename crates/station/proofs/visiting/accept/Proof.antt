@@ -1,9 +1,8 @@
-use mathlib.Core.Path.{_≡_, refl, ap, _∙_}
+use mathlib.Core.Path.{ap, _∙_}
 use native.Mathlib.Omega.{arith}
 use borrow.Author.Needs.{needs}
 use Rattle.record.specs.Bytes.{recordBytes}
 use Rattle.record.specs.Head.{postsOn, recordIn}
-use Rattle.record.specs.declared.Record.{Record}
 use Rattle.station.specs.Visit.{Visit}
 use Rattle.station.specs.EveryArrival.{visit}
 use Rattle.station.proofs.VisitReads.{written-fits}
