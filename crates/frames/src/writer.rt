@@ -35,7 +35,7 @@ fn put_message_fixed(out: &mut [u8], m: Message, size: usize)
 }
 
 // A message that follows the layout, where there is room: nothing is asked again. Ruled out: a byte past the
-// frame changed.
+// frame changed; a content that starts a byte late.
 pub fn put_message(m: Message, content: &[u8], out: &mut [u8])
     requires { ⌜ (messageFollows m (now content) ≡ true) × (messageSize (length (now content)) ≤ length (now out)) ⌝ }
     ensures { λ _. ⌜ now (out .exit) ≡ (messageWritten m (now (content .entry)) (now (out .entry))) .out ⌝ }
@@ -82,7 +82,8 @@ fn put_token_fixed(out: &mut [u8], t: Token)
     words::put_u16(out, layout::COUNT_AT, t.count);
 }
 
-// A token that follows the layout, where there is room: nothing is asked again. Ruled out: requests left out.
+// A token that follows the layout, where there is room: nothing is asked again. Ruled out: requests left out; a
+// byte past the frame changed.
 pub fn put_token(t: Token, out: &mut [u8])
     requires { ⌜ (tokenFollows t ≡ true) × (tokenSize (t .count) ≤ length (now out)) ⌝ }
     ensures { λ _. ⌜ now (out .exit) ≡ (tokenWritten t (now (out .entry))) .out ⌝ }

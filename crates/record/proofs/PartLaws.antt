@@ -16,10 +16,10 @@ use Rattle.record.proofs.ListLaws.{part-before, part-after, part-writte
 back : (s w : List ℕ) (at : ℕ) → at + length w ≤ length s → take at s ++ (w ++ drop (length w) (drop at s)) ≡ sets s at w
 back s w at room = rw (drop-drop (length w) at s, sets-eq w s at room, append-assoc (take at s) w (drop (at + length w) s))
 
-pub contents-long : (s : List ℕ) → recordSize ≤ length s → length (contentsIn s logAt) ≡ heldContents
+contents-long : (s : List ℕ) → recordSize ≤ length s → length (contentsIn s logAt) ≡ heldContents
 contents-long s room = length-take-le heldContents (drop (logAt + heldMessagesAt + heldContentsAt) s) (rw length-drop (omega arith))
 
-pub waiting-long : (s : List ℕ) → recordSize ≤ length s → length (waitingIn s postsAt) ≡ postContents
+waiting-long : (s : List ℕ) → recordSize ≤ length s → length (waitingIn s postsAt) ≡ postContents
 waiting-long s room = length-take-le postContents (drop (postsAt + postContentsAt) s) (rw length-drop (omega arith))
 
 module _ (s w : List ℕ) (size : length s ≡ recordSize) where
@@ -27,7 +27,10 @@ module _ (s w : List ℕ) (size : length s ≡ recordSize) where
   abbrev withContents : List ℕ
   withContents = take (logAt + heldMessagesAt + heldContentsAt) s ++ (w ++ drop heldContents (drop (logAt + heldMessagesAt + heldContentsAt) s))
 
-  module _ (long : length w ≡ heldContents) where
+  module _ (kept : length w ≡ length (contentsIn s logAt)) where
+    long : length w ≡ heldContents
+    long = kept ∙ contents-long s (omega (arith, size))
+
     contents-back : withContents ≡ sets s (logAt + heldMessagesAt + heldContentsAt) w
     contents-back = rw long at (back s w (logAt + heldMessagesAt + heldContentsAt) (omega (arith, size, long)))
 
@@ -41,12 +44,15 @@ module _ (s w : List ℕ) (size : length s ≡ recordSize) where
   abbrev withWaiting : List ℕ
   withWaiting = take (postsAt + postContentsAt) s ++ (w ++ drop postContents (drop (postsAt + postContentsAt) s))
 
-  module _ (long : length w ≡ postContents) where
+  module _ (kept : length w ≡ length (waitingIn s postsAt)) where
+    full : length w ≡ postContents
+    full = kept ∙ waiting-long s (omega (arith, size))
+
     waiting-back : withWaiting ≡ sets s (postsAt + postContentsAt) w
-    waiting-back = rw long at (back s w (postsAt + postContentsAt) (omega (arith, size, long)))
+    waiting-back = rw full at (back s w (postsAt + postContentsAt) (omega (arith, size, full)))
 
     pub waiting-put : waitingIn withWaiting postsAt ≡ w
-    waiting-put = rw waiting-back (rw long at (part-written (postsAt + postContentsAt) w s (omega (arith, size, long))))
+    waiting-put = rw waiting-back (rw full at (part-written (postsAt + postContentsAt) w s (omega (arith, size, full))))
 
     pub contents-left : contentsIn withWaiting logAt ≡ contentsIn s logAt
     contents-left = rw waiting-back (part-before heldContents (logAt + heldMessagesAt + heldContentsAt) (postsAt + postContentsAt) w s (omega arith))

@@ -52,14 +52,14 @@ pub fn look(s: &[u8]) -> Looked
     Looked { whole, head }
 }
 
-// The first answer alone.
+// The first answer alone. Ruled out: yes to every record of the right length; yes to a longer slice.
 pub fn is_whole_in(s: &[u8]) -> bool
     ensures { λ b. ⌜ b ≡ bytesWhole (now (s .entry)) ⌝ }
 {
     look(s).whole
 }
 
-// The contents of the held messages.
+// The contents of the held messages. Ruled out: the contents of the posts; one byte too few.
 pub fn contents_in(s: &[u8]) -> &[u8]
     requires { ⌜ recordSize ≤ length (now s) ⌝ }
     ensures { λ r. ⌜ now r ≡ contentsIn (now (s .entry)) logAt ⌝ }

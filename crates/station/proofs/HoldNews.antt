@@ -38,6 +38,16 @@ content-long : (p : Posts) (i : ℕ) → PostsRange p → i < p .count → lengt
 content-long p i range h =
     length-take-le (getD (p .lengths) i 0) (drop (mostContent * i) (p .contents)) (rw length-drop (omega (arith, range .arrays .contents, range .lengths i, range .count)))
 
+-- the next post, its number and what is left, as the code counts and as the definitions do
+record Next (n highest i : ℕ) : Type 0 where
+  left : n - i ≡ suc (n - (i + 1))
+  post : i + 1 ≡ suc i
+  number : highest + i + 1 ≡ suc (highest + i)
+  highest′ : highest + suc i ≡ suc (highest + i)
+
+next : (n highest i : ℕ) → i < n → Next n highest i
+next n highest i more = record { left = omega arith; post = omega arith; number = omega arith; highest′ = omega arith }
+
 -- ---- the head
 
 -- the head once a post is held
@@ -70,15 +80,12 @@ module _ (first : LogHead) (contents : List ℕ) (own highest : ℕ) (p : Posts)
         (i + 1)
     unfolding withNews postsFrom heldWith
     heading-goes more range few =
-        let left : n - i ≡ suc (n - (i + 1)) = omega arith in
-        let post : i + 1 ≡ suc i = omega arith in
-        let number : highest + i + 1 ≡ suc (highest + i) = omega arith in
-        let next : highest + suc i ≡ suc (highest + i) = omega arith in
+        let k = next n highest i more in
         let place = placeOf (suc (highest + i)) in
         let e = postAt p i in
         let long : length (e .content) ≡ getD (p .lengths) i 0 = content-long p i range (omega arith) in
         let same = news-head (after l own place e) (sets contents (mostContent * place) (e .content)) contents own (suc (highest + i)) (postsFrom p (suc i) (n - suc i)) in
-        record { within = omega arith; rest = rw (number, post, next, ← long) (sym same ∙ (rw (left, post) at (so-far .rest))) }
+        record { within = omega arith; rest = rw (k .number, k .post, k .highest′, ← long) (sym same ∙ (rw (k .left, k .post) at (so-far .rest))) }
 
 pub heading-ends : (first : LogHead) (contents : List ℕ) (own highest : ℕ) (p : Posts) (n : ℕ) (l : LogHead) (i : ℕ)
     → Heading first contents own highest p n l i
@@ -118,14 +125,11 @@ module _ (l : LogHead) (own highest : ℕ) (p : Posts) (n : ℕ) (before : List 
         → Placing l own highest p n before contents′ (i + 1)
     unfolding withNews postsFrom heldWith
     placing-goes contents′ more e =
-        let left : n - i ≡ suc (n - (i + 1)) = omega arith in
-        let post : i + 1 ≡ suc i = omega arith in
-        let number : highest + i + 1 ≡ suc (highest + i) = omega arith in
-        let next : highest + suc i ≡ suc (highest + i) = omega arith in
+        let k = next n highest i more in
         let place = placeOf (suc (highest + i)) in
         let x = postAt p i in
         let same = news-contents l (after l own place x) (sets contents (mostContent * place) (x .content)) own (suc (highest + i)) (postsFrom p (suc i) (n - suc i)) in
-        record { within = omega arith; rest = rw (e, number, post, next) (same ∙ (rw (left, post) at (so-far .rest))) }
+        record { within = omega arith; rest = rw (e, k .number, k .post, k .highest′) (same ∙ (rw (k .left, k .post) at (so-far .rest))) }
 
 pub placing-ends : (l : LogHead) (own highest : ℕ) (p : Posts) (n : ℕ) (before contents : List ℕ) (i : ℕ)
     → Placing l own highest (postsIn n (p .services) (p .lengths) (p .contents)) n before contents i

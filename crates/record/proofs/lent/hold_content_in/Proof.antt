@@ -1,10 +1,7 @@
 use Prim.Native.Nat.{_-_}
 use mathlib.Core.Path.{_≡_, _∙_}
-use native.Mathlib.Omega.{arith}
-use lib.ListN.{length}
 use borrow.Author.Needs.{needs}
-use Rattle.record.specs.Size.{heldContents}
-use Rattle.record.proofs.PartLaws.{contents-long, contents-put, waiting-left, content-copied}
+use Rattle.record.proofs.PartLaws.{contents-put, waiting-left, content-copied}
 use Rattle.record.proofs.lent.hold_content_in.Statement.{statement}
 use Rattle.record.proofs.lent.hold_content_in.Tie as tie
 
@@ -13,9 +10,9 @@ returns c =
     let start = c .before .before .before .before .before .before .before .before .before .before .before .before in
     let s = start .args .s .now in
     let w = c .before .before .put-bytes .last .0 in
-    let long : length w ≡ heldContents = c .before .before .put-bytes .kept .0 ∙ contents-long s (omega (arith, start .pre .0)) in
+    let kept = c .before .before .put-bytes .kept .0 in
     let copied = content-copied s _ _ (start .args .post) (start .args .size) (start .pre .0) (start .pre .1) (start .pre .2) (c .before .before .before .before .before .before .before .before .get-bytes .ensures) in
-    (contents-put s w (start .pre .0) long ∙ rw copied at (c .before .before .put-bytes .ensures), waiting-left s w (start .pre .0) long)
+    (contents-put s w (start .pre .0) kept ∙ rw copied at (c .before .before .put-bytes .ensures), waiting-left s w (start .pre .0) kept)
 
 pub hold-content-in-spec : {M : Type 1} → statement M
 hold-content-in-spec =

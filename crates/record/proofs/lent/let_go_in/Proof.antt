@@ -1,18 +1,14 @@
-use mathlib.Core.Path.{_≡_, _∙_}
-use native.Mathlib.Omega.{arith}
-use lib.ListN.{length}
 use borrow.Author.Needs.{needs}
-use Rattle.record.specs.Size.{heldContents}
-use Rattle.record.proofs.PartLaws.{contents-long, contents-put, waiting-left}
+use Rattle.record.proofs.PartLaws.{contents-put, waiting-left}
 use Rattle.record.proofs.lent.let_go_in.Statement.{statement}
 use Rattle.record.proofs.lent.let_go_in.Tie as tie
 
 returns : tie.Need-returns
 returns c =
     let start = c .before .before .before .before .before in
-    let w = c .before .before .let-go .last .1 .0 in
-    let long : length w ≡ heldContents = c .before .before .let-go .kept .1 .0 ∙ contents-long (start .args .s .now) (omega (arith, start .pre .0)) in
-    (rw (contents-put (start .args .s .now) w (start .pre .0) long) (c .before .before .let-go .ensures), waiting-left (start .args .s .now) w (start .pre .0) long)
+    let s = start .args .s .now in
+    let left = c .before .before .let-go in
+    (rw (contents-put s (left .last .1 .0) (start .pre .0) (left .kept .1 .0)) (left .ensures), waiting-left s (left .last .1 .0) (start .pre .0) (left .kept .1 .0))
 
 pub let-go-in-spec : {M : Type 1} → statement M
 let-go-in-spec =

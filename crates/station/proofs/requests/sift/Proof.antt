@@ -1,10 +1,11 @@
-use Prim.Native.Nat.{ℕ, _-_}
+use Prim.Native.Nat.{ℕ, _-_, _<_}
 use mathlib.Core.Path.{sym, ap, _∙_}
 use mathlib.Core.List.{List, []}
 use lib.ListN.{length}
 use mathlib.Core.Logic.{⊎-elim}
 use mathlib.Core.Bool.{not}
 use borrow.Author.Needs.{needs}
+use Rattle.frames.specs.Layout.{mostRequests}
 use Rattle.record.specs.Head.{logOn}
 use Rattle.record.specs.Held.{holds}
 use Rattle.station.proofs.ListedLaws.{Gathered, gathered-none, gathered-few, gathered-takes, gathered-leaves, gathered-all}
@@ -21,29 +22,37 @@ abbrev μ-loop : tie.MeasureT-loop
 loop-holds : tie.Need-loop-holds Inv-loop μ-loop
 loop-holds c = λ contents. (gathered-none _ _ (c .before .none-listed .ensures), gathered-none _ _ (c .none-listed2 .ensures))
 
+-- both lists have a place left for this request
+room : (c : tie.After-is-held Inv-loop μ-loop) → (c .before .before .before .before .loop .held .count < mostRequests) × (c .before .before .before .before .loop .rest .count < mostRequests)
+room c =
+    let at = c .before .before .before .before .loop .inv [] in
+    let more = c .before .before .before .loop-test .taken in
+    let few = c .before .before .before .before .before .before .before .before .before .pre .1 in
+    (gathered-few _ _ _ _ (at .0) more few, gathered-few _ _ _ _ (at .1) more few)
+
 cast-place : tie.Need-cast-place Inv-loop μ-loop
-cast-place c = let few = gathered-few _ _ _ _ (c .before .before .before .before .before .loop .inv [] .0) (c .before .before .before .before .loop-test .taken) (c .before .before .before .before .before .before .before .before .before .before .pre .1) in search needs
+cast-place c = let few = room (c .before) .0 in search needs
 
 mul-held : tie.Need-mul-held Inv-loop μ-loop
-mul-held c = let few = gathered-few _ _ _ _ (c .before .before .before .before .before .loop .inv [] .0) (c .before .before .before .before .loop-test .taken) (c .before .before .before .before .before .before .before .before .before .before .pre .1) in search needs
+mul-held c = let few = room (c .before) .0 in search needs
 
 element-write-held : tie.Need-element-write-held Inv-loop μ-loop
-element-write-held c = let few = gathered-few _ _ _ _ (c .before .before .before .before .before .loop .inv [] .0) (c .before .before .before .before .loop-test .taken) (c .before .before .before .before .before .before .before .before .before .before .pre .1) in search needs
+element-write-held c = let few = room (c .before) .0 in search needs
 
 add-held : tie.Need-add-held Inv-loop μ-loop
-add-held c = let few = gathered-few _ _ _ _ (c .before .before .before .before .before .loop .inv [] .0) (c .before .before .before .before .loop-test .taken) (c .before .before .before .before .before .before .before .before .before .before .pre .1) in search needs
+add-held c = let few = room (c .before) .0 in search needs
 
 cast-place-2 : tie.Need-cast-place-2 Inv-loop μ-loop
-cast-place-2 c = let few = gathered-few _ _ _ _ (c .before .before .before .before .before .loop .inv [] .1) (c .before .before .before .before .loop-test .taken) (c .before .before .before .before .before .before .before .before .before .before .pre .1) in search needs
+cast-place-2 c = let few = room (c .before) .1 in search needs
 
 mul-rest : tie.Need-mul-rest Inv-loop μ-loop
-mul-rest c = let few = gathered-few _ _ _ _ (c .before .before .before .before .before .loop .inv [] .1) (c .before .before .before .before .loop-test .taken) (c .before .before .before .before .before .before .before .before .before .before .pre .1) in search needs
+mul-rest c = let few = room (c .before) .1 in search needs
 
 element-write-rest : tie.Need-element-write-rest Inv-loop μ-loop
-element-write-rest c = let few = gathered-few _ _ _ _ (c .before .before .before .before .before .loop .inv [] .1) (c .before .before .before .before .loop-test .taken) (c .before .before .before .before .before .before .before .before .before .before .pre .1) in search needs
+element-write-rest c = let few = room (c .before) .1 in search needs
 
 add-rest : tie.Need-add-rest Inv-loop μ-loop
-add-rest c = let few = gathered-few _ _ _ _ (c .before .before .before .before .before .loop .inv [] .1) (c .before .before .before .before .loop-test .taken) (c .before .before .before .before .before .before .before .before .before .before .pre .1) in search needs
+add-rest c = let few = room (c .before) .1 in search needs
 
 loop-again : tie.Need-loop-again Inv-loop μ-loop
 unfolding holds
