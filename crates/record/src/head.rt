@@ -1,5 +1,6 @@
 // Heads: a log, the waiting posts and a record without their contents. The contents stay where they are lent,
-// so a head is small and goes by value where the whole would be copied.
+// so a head is small and goes by value where the whole would be copied. A count stands last in it, behind the
+// arrays: there is no hole between fields, and a copy moves them by whole words.
 ghost use mathlib.Core.Path.{_≡_};
 ghost use Rattle.record.specs.Head.{recordOn};
 use crate::Record;
@@ -13,7 +14,6 @@ use frames::RingNumber;
 
 pub struct LogHead {
     pub ring: RingNumber,
-    pub count: u8,
     pub members: [u16; size::MOST_MEMBERS],
     pub level: MessageNumber,
     pub safe: MessageNumber,
@@ -21,12 +21,13 @@ pub struct LogHead {
     pub senders: [u16; size::MOST_HELD],
     pub services: [u16; size::MOST_HELD],
     pub lengths: [u8; size::MOST_HELD],
+    pub count: u8,
 }
 
 pub struct PostsHead {
-    pub count: u8,
     pub services: [u16; size::MOST_POSTS],
     pub lengths: [u8; size::MOST_POSTS],
+    pub count: u8,
 }
 
 pub struct Head {

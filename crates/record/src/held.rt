@@ -9,8 +9,8 @@ ghost use lib.Seq.{sets};
 ghost use Rattle.frames.specs.Number.{mostNumber};
 ghost use Rattle.frames.specs.Layout.{mostContent};
 ghost use Rattle.record.specs.Size.{mostHeld, heldContents};
-ghost use Rattle.record.specs.Head.{heldOn, logOn, headWith};
-ghost use Rattle.record.specs.Held.{placeOf, heldOf, heldWith, logWith, stored, clearedFrom, letGo};
+ghost use Rattle.record.specs.Head.{logOn, headWith};
+ghost use Rattle.record.specs.Held.{placeOf, heldOf, heldWith, stored, clearedFrom, letGo};
 use crate::head::LogHead;
 use crate::size;
 use frames::MessageNumber;
@@ -135,25 +135,31 @@ pub fn store(
     }
 }
 
-// The places of n numbers, from `first` on, are cleared where they stand: nothing is copied for it.
-fn clear_from(l: LogHead, contents: &mut [u8], first: u32, n: u32) -> LogHead
+// The places of n numbers, from `first` on, are cleared where they are lent.
+fn clear_from(
+    senders: &mut [u16; size::MOST_HELD],
+    services: &mut [u16; size::MOST_HELD],
+    lengths: &mut [u8; size::MOST_HELD],
+    contents: &mut [u8],
+    first: u32,
+    n: u32,
+)
     requires { ⌜ (first + n ≤ 4000000000) × (length (now contents) ≡ heldContents) ⌝ }
-    ensures { λ r. ⌜
-        logOn r (now (contents .exit))
-        ≡ logWith (logOn l (now (contents .entry))) (l .level) (l .safe) (l .delivered)
-        (clearedFrom (heldOn l (now (contents .entry))) first n) ⌝ }
+    ensures { λ _. ⌜
+        heldOf (now (senders .exit)) (now (services .exit)) (now (lengths .exit)) (now (contents .exit))
+        ≡ clearedFrom
+        (heldOf (now (senders .entry)) (now (services .entry)) (now (lengths .entry)) (now (contents .entry)))
+        first n ⌝ }
 {
-    let mut head = l;
     let mut i = 0;
     while i < n {
         let place = (first + i) as usize % size::MOST_HELD;
-        head.senders[place] = 0;
-        head.services[place] = 0;
-        head.lengths[place] = 0;
+        senders[place] = 0;
+        services[place] = 0;
+        lengths[place] = 0;
         put_content(contents, place, &[0u8; frames::MOST_CONTENT]);
         i += 1;
     }
-    head
 }
 
 // Everything up to a new safe mark is let go. Ruled out: the mark's own message kept; one above it let go.
@@ -162,6 +168,30 @@ pub fn let_go(l: LogHead, contents: &mut [u8], safe: MessageNumber) -> LogHead
         (l .safe .0 ≤ safe .0) × (safe .0 ≤ mostNumber) × (length (now contents) ≡ heldContents) ⌝ }
     ensures { λ r. ⌜ logOn r (now (contents .exit)) ≡ letGo (logOn l (now (contents .entry))) (safe .0) ⌝ }
 {
-    let cleared = clear_from(l, contents, l.safe.0 + 1, safe.0 - l.safe.0);
-    marked(cleared, l.level, safe, l.delivered)
+    let ring = l.ring;
+    let members = l.members;
+    let level = l.level;
+    let delivered = l.delivered;
+    let mut senders = l.senders;
+    let mut services = l.services;
+    let mut lengths = l.lengths;
+    clear_from(
+        &mut senders,
+        &mut services,
+        &mut lengths,
+        contents,
+        l.safe.0 + 1,
+        safe.0 - l.safe.0,
+    );
+    LogHead {
+        ring,
+        count: l.count,
+        members,
+        level,
+        safe,
+        delivered,
+        senders,
+        services,
+        lengths,
+    }
 }

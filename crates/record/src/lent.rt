@@ -1,6 +1,5 @@
 // A record lent as bytes: what is asked of it and done to it where it stands. A head goes by value, contents stay.
 ghost use mathlib.Core.Path.{_≡_};
-ghost use mathlib.Core.Bool.{true};
 ghost use Prim.Native.Nat.{_*_, _≤_, _<_};
 ghost use lib.ListN.{length, take, drop};
 ghost use lib.Seq.{sets};
@@ -10,8 +9,8 @@ ghost use Rattle.record.specs.Size.{mostPosts};
 ghost use Rattle.record.specs.Held.{placeOf, stored, letGo};
 ghost use Rattle.record.specs.Posts.{taken};
 ghost use Rattle.record.specs.Layout.{recordSize, logAt, postsAt};
-ghost use Rattle.record.specs.Head.{logOn, postsOn, recordIn, contentsIn, waitingIn};
-ghost use Rattle.record.specs.Lent.{lent, bytesWhole};
+ghost use Rattle.record.specs.Head.{logOn, postsOn, contentsIn, waitingIn};
+ghost use Rattle.record.specs.Lent.{HeadOf, bytesWhole};
 use crate::bytes;
 use crate::fresh;
 use crate::head::Head;
@@ -25,38 +24,39 @@ use crate::whole;
 use frames::MessageNumber;
 use frames::RingNumber;
 
-// What is asked first: is the record whole? Its head goes along, for what comes next.
-pub struct Looked {
-    pub whole: bool,
-    pub head: Head,
-}
-
-// The record is looked at where it stands; bytes of another length have the head of nobody's record. Ruled out:
-// a longer slice with a whole record at its front; a content past its length not looked at.
-pub fn look(s: &[u8]) -> Looked
-    ensures { λ r. ⌜
-        (r .whole ≡ bytesWhole (now (s .entry)))
-        × (r .whole ≡ true → recordIn (r .head) (now (s .entry)) ≡ lent (now (s .entry))) ⌝ }
+// The head of the record, for whatever comes next; bytes of another length have the head of nobody's record.
+// Ruled out: two marks swapped; the head of a record at the front of a longer slice.
+pub fn head_in(s: &[u8]) -> Head
+    ensures { λ r. ⌜ HeadOf r (now (s .entry)) ⌝ }
 {
     if s.len() != layout::RECORD_SIZE {
         let nobody = [0u16; size::MOST_MEMBERS];
-        let head = fresh::fresh_head(&nobody[0..0], 0, RingNumber(0));
-        return Looked { whole: false, head };
+        return fresh::fresh_head(&nobody[0..0], 0, RingNumber(0));
     }
-    let head = bytes::get_head(s);
-    let whole = whole::is_whole_on(
-        head,
-        &s[layout::CONTENTS_AT..layout::CONTENTS_END],
-        &s[layout::WAITING_AT..],
-    );
-    Looked { whole, head }
+    bytes::get_head(s)
 }
 
-// The first answer alone. Ruled out: yes to every record of the right length; yes to a longer slice.
+// Is the record whole, whose head this is? Its contents are looked at where they stand. Ruled out: a longer
+// slice with a whole record at its front; a content past its length not looked at.
+pub fn is_whole_at(h: Head, s: &[u8]) -> bool
+    requires { ⌜ HeadOf h (now s) ⌝ }
+    ensures { λ b. ⌜ b ≡ bytesWhole (now (s .entry)) ⌝ }
+{
+    if s.len() != layout::RECORD_SIZE {
+        return false;
+    }
+    whole::is_whole_on(
+        h,
+        &s[layout::CONTENTS_AT..layout::CONTENTS_END],
+        &s[layout::WAITING_AT..],
+    )
+}
+
+// The same of bytes alone. Ruled out: yes to every record of the right length; yes to a longer slice.
 pub fn is_whole_in(s: &[u8]) -> bool
     ensures { λ b. ⌜ b ≡ bytesWhole (now (s .entry)) ⌝ }
 {
-    look(s).whole
+    is_whole_at(head_in(s), s)
 }
 
 // The contents of the held messages. Ruled out: the contents of the posts; one byte too few.

@@ -1,11 +1,10 @@
 -- Arrival, question by question.
-use Prim.Native.Nat.{ℕ, suc, _+_, _-_, _<_, _≤_}
+use Prim.Native.Nat.{ℕ, _-_, _<_, _≤_}
 use mathlib.Core.Path.{_≡_, refl, sym, ap, _∙_}
-use mathlib.Core.Bool.{Bool, true, false, not, _||_, _&&_, and-false, cond}
+use mathlib.Core.Bool.{Bool, true, false, _&&_, and-false, cond}
 use mathlib.Core.List.{List, []}
-use borrow.Author.Tests.{leb-true, le-leb, lt-leb, le-ltb, lt-ltb, eq-eqb, ne-eqb}
+use borrow.Author.Tests.{leb-true, le-ltb, lt-ltb, eq-eqb, ne-eqb}
 use native.Mathlib.Nat.{sub-zero}
-use native.Mathlib.Numerals.{add-one}
 use native.Mathlib.Omega.{arith}
 use lib.ListN.{length, take}
 use lib.Dec.{leb}
@@ -20,16 +19,12 @@ use Rattle.frames.specs.declared.token.Token.{Token}
 use Rattle.frames.specs.declared.reader.Reading.{Reading}
 use Rattle.frames.specs.declared.reader.Answer.the-variants.{Refused as Unreadable, IsMessage, IsToken}
 use Rattle.frames.proofs.Facts.{part}
-use Rattle.record.specs.Size.{mostHeld}
-use Rattle.record.specs.Count.{everyFrom}
 use Rattle.record.specs.Bytes.{recordBytes}
 use Rattle.record.specs.Head.{recordIn}
-use Rattle.record.specs.Held.{holds}
 use Rattle.record.specs.Members.{isMember}
 use Rattle.record.specs.Ring.{current, ids, thisRing, tokenMembers}
 use Rattle.record.specs.Whole.{whole}
 use Rattle.record.specs.declared.head.Head.{Head}
-use Rattle.record.specs.declared.log.Log.{Log}
 use Rattle.record.specs.declared.Record.{Record}
 use Rattle.record.proofs.WholeFacts.{whole-good}
 use Rattle.station.specs.Reply.{Reply, refused, asks, followedBy, mostFrames, mostDeliveries}
@@ -73,36 +68,11 @@ refuses-both reply h s frames out why there e =
     let l = refuses-deliveries reply h s out why there e in
     (l .0, l .1, sym (ap (λ (x : Reply). followedBy (x .frames) frames) e), l .2)
 
--- ---- 18, number by number
-
-module _ (l : Log) (highest : ℕ) where
-  -- covers this number
-  abbrev pub covers : ℕ → Bool
-  covers n = leb n highest || not (holds l n)
-
-  pub covers-below : highest < l .level .0 → false ≡ coversHeld l highest
-  unfolding coversHeld
-  covers-below h = rw (lt-leb (l .level .0) highest h)
-
-  pub covers-rest : (b : Bool) → l .level .0 ≤ highest → b ≡ everyFrom (λ n. covers n) (suc (l .safe .0)) mostHeld → b ≡ coversHeld l highest
-  unfolding coversHeld
-  covers-rest b h e = rw (le-leb (l .level .0) highest h) e
-
-  -- as the code asks
-  pub covers-at : (i : ℕ) (held b : Bool)
-      → held ≡ holds l (l .safe .0 + 1 + i)
-      → leb (l .safe .0 + 1 + i) highest || not held ≡ b
-      → covers (suc (l .safe .0) + i) ≡ b
-  covers-at i held b e f = rw (← add-one (l .safe .0)) (rw e at f)
-
 -- ---- the members, as the code spells them
 
 module _ (r : Record) (w : whole r ≡ true) where
   pub count-fits : r .log .count ≤ length (r .log .members)
   count-fits = let m = whole-good r w .log .ready .members in omega (arith, m .long, m .few)
-
-  pub safe-most : r .log .safe .0 ≤ mostNumber
-  safe-most = let marks = whole-good r w .log .ready .marks in omega arith
 
 -- 13 and 14, as the code asks
 module _ (r : Record) (asked answer : Bool) where

@@ -23,6 +23,7 @@ pub mod DueLaws
 pub mod LogSteps
 pub mod ListedLaws
 pub mod CirculationLaws
+pub mod CoversLaws
 pub mod MarkLaws
 pub mod PutFrames
 pub mod DueCount

@@ -23,7 +23,7 @@ pub fn smaller(a: u32, b: u32) -> u32
 }
 
 // Not below 0.
-fn less(a: u32, b: u32) -> u32
+pub fn less(a: u32, b: u32) -> u32
     ensures { λ r. ⌜ r ≡ a - b ⌝ }
 {
     if a <= b { 0 } else { a - b }

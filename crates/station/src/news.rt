@@ -28,17 +28,34 @@ pub fn hold_news(h: Head, s: &[u8], highest: MessageNumber, n: u32) -> LogHead
         (take n (waiting (recordIn h (now (s .entry)) .posts)))) ⌝ }
 {
     let posts = h.posts;
-    let mut log = h.log;
+    let ring = h.log.ring;
+    let members = h.log.members;
+    let level = h.log.level;
+    let safe = h.log.safe;
+    let delivered = h.log.delivered;
+    let mut senders = h.log.senders;
+    let mut services = h.log.services;
+    let mut lengths = h.log.lengths;
     let mut i = 0;
     while i < n {
         let post = i as usize;
         let place = (highest.0 + i + 1) as usize % record::MOST_HELD;
-        log.senders[place] = h.own;
-        log.services[place] = posts.services[post];
-        log.lengths[place] = posts.lengths[post];
+        senders[place] = h.own;
+        services[place] = posts.services[post];
+        lengths[place] = posts.lengths[post];
         i += 1;
     }
-    log
+    LogHead {
+        ring,
+        count: h.log.count,
+        members,
+        level,
+        safe,
+        delivered,
+        senders,
+        services,
+        lengths,
+    }
 }
 
 // Their contents go from the posts to where they are held. Ruled out: another post's content; a post's own

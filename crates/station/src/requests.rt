@@ -2,7 +2,7 @@
 // 2 and 7.
 ghost use mathlib.Core.Path.{_≡_};
 ghost use mathlib.Core.Bool.{not, _&&_};
-ghost use mathlib.Core.List.{List, [], _++_};
+ghost use mathlib.Core.List.{List, _++_};
 ghost use Prim.Native.Nat.{ℕ, _+_, _-_, _≤_, _<_};
 ghost use lib.ListN.{length, take, set};
 ghost use Rattle.words.specs.Scan.{lacks};
@@ -17,17 +17,8 @@ use record::LogHead;
 
 // Up to 16 message numbers, as a token has them: the first `count` places, the others 0.
 pub struct Requests {
-    pub count: u16,
     pub numbers: [u32; frames::MOST_REQUESTS],
-}
-
-fn none_listed() -> Requests
-    ensures { λ r. ⌜ r ≡ listed [] ⌝ }
-{
-    Requests {
-        count: 0,
-        numbers: [0u32; frames::MOST_REQUESTS],
-    }
+    pub count: u16,
 }
 
 // One more, behind the others.
@@ -59,23 +50,34 @@ pub fn sift(l: LogHead, requests: &[u32]) -> Sifted
     }) ⌝ }
 {
     let senders = l.senders;
-    let mut held = none_listed();
-    let mut rest = none_listed();
+    let mut held = [0u32; frames::MOST_REQUESTS];
+    let mut rest = [0u32; frames::MOST_REQUESTS];
+    let mut repeats = 0u16;
+    let mut left = 0u16;
     let mut i = 0;
     while i < requests.len() {
         let n = requests[i];
         if record::is_held(l.safe, &senders, MessageNumber(n)) {
-            let place = held.count as usize;
-            held.numbers[place] = n;
-            held.count += 1;
+            let place = repeats as usize;
+            held[place] = n;
+            repeats += 1;
         } else {
-            let place = rest.count as usize;
-            rest.numbers[place] = n;
-            rest.count += 1;
+            let place = left as usize;
+            rest[place] = n;
+            left += 1;
         }
         i += 1;
     }
-    Sifted { held, rest }
+    Sifted {
+        held: Requests {
+            numbers: held,
+            count: repeats,
+        },
+        rest: Requests {
+            numbers: rest,
+            count: left,
+        },
+    }
 }
 
 // Is this number among the requests?

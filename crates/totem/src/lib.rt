@@ -101,12 +101,12 @@ pub extern "C" fn totem_arrive(
         (arriveOver (now (bytes .entry)) (now (frame .entry)) (length (now (frames .entry))) (length (now (deliveries .entry))) .deliveries)
         (now (deliveries .entry))) ⌝ }
 {
-    let seen = record::look(bytes);
-    if !seen.whole {
+    let head = record::head_in(bytes);
+    if !record::is_whole_at(head, bytes) {
         let room = station::arrival_fits(frames.len(), deliveries.len());
         return station::outcome_of(station::not_whole(room));
     }
-    station::outcome_of(station::arrive_in(seen.head, bytes, frame, frames, deliveries))
+    station::outcome_of(station::arrive_in(head, bytes, frame, frames, deliveries))
 }
 
 // Resending. Ruled out: another token written; 2 where the buffer is too small already.

@@ -10,7 +10,7 @@ arrays c =
     let fields = c .good .0 .1 .1 .1 in
     record {
       log = record { members = (let g = fields .0 in search needs); held = (let g = fields .0 .1 .1 .1 .1 .1 .1 .1 .1 .0 in search needs) };
-      token = (let g = fields .1 .0 .1 .1 .1 .1 .1 .1 .1 .1 .0 in search needs);
+      token = (let g = fields .1 .0 .1 .1 .1 .1 .1 .0 in search needs);
       posts = (let g = fields .1 .1 .0 in search needs);
     }
 

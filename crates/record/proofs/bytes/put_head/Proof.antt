@@ -19,7 +19,7 @@ returns c =
       services = (let g = fields .0 .1 .1 .1 .1 .1 .1 .1 in search needs);
       lengths = (let g = fields .0 .1 .1 .1 .1 .1 .1 .1 in search needs);
     } in
-    let token : length (start .args .h .turn .token) ≡ longestToken = (let g = fields .1 .0 .1 .1 .1 .1 .1 .1 .1 .1 .0 in search needs) in
+    let token : length (start .args .h .turn .token) ≡ longestToken = (let g = fields .1 .0 .1 .1 .1 .1 .1 .0 in search needs) in
     let services : length (start .args .h .posts .services) ≡ mostPosts = (let g = fields .1 .1 .0 in search needs) in
     let lengths : length (start .args .h .posts .lengths) ≡ mostPosts = (let g = fields .1 .1 .0 in search needs) in
     head-stored _ _ _ _ _ _ log token services lengths (start .pre) (c .before .before .before .before .before .before .before .before .before .before .before .before .before .before .put-u16 .ensures) (c .before .before .before .before .before .before .before .before .before .before .put-log-head .ensures) (c .before .before .before .before .before .before .put-turn .ensures) (c .before .before .put-posts-head .ensures)

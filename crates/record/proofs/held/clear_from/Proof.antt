@@ -2,25 +2,23 @@ use Prim.Native.Nat.{_+_, _-_, _≤_}
 use mathlib.Core.Path.{_≡_}
 use lib.ListN.{length}
 use borrow.Author.Needs.{needs}
-use Rattle.record.specs.Head.{heldOn, logOn}
-use Rattle.record.specs.Held.{logWith, cleared, clearedFrom}
+use Rattle.record.specs.Held.{heldOf, cleared, clearedFrom}
 use Rattle.record.proofs.HeldSteps.{cleared-none, cleared-more, cleared-all}
 use Rattle.record.proofs.held.clear_from.Statement.{statement}
 use Rattle.record.proofs.held.clear_from.Tie as tie
 
--- what is left to clear decides the whole; the marks and the members stay
+-- what is left to clear decides the whole
 abbrev Inv-loop : tie.InvT-loop
-Inv-loop contents₀ first n head₀ i₀ zeros contents head i =
+Inv-loop senders₀ services₀ lengths₀ contents₀ first n i₀ zeros senders services lengths contents i =
     (i ≤ n)
     × (length contents ≡ length contents₀)
-    × (logWith (logOn head contents) (head .level) (head .safe) (head .delivered) (clearedFrom (heldOn head contents) (first + i) (n - i))
-    ≡ logWith (logOn head₀ contents₀) (head₀ .level) (head₀ .safe) (head₀ .delivered) (clearedFrom (heldOn head₀ contents₀) first n))
+    × (clearedFrom (heldOf senders services lengths contents) (first + i) (n - i) ≡ clearedFrom (heldOf senders₀ services₀ lengths₀ contents₀) first n)
 
 abbrev μ-loop : tie.MeasureT-loop
-μ-loop contents₀ first n head₀ i₀ zeros contents head i = n - i
+μ-loop senders₀ services₀ lengths₀ contents₀ first n i₀ zeros senders services lengths contents i = n - i
 
 loop-holds : tie.Need-loop-holds Inv-loop μ-loop
-loop-holds c = (search needs, search needs, rw (cleared-none _ _ _))
+loop-holds c = (search needs, search needs, cleared-none _ _ _)
 
 put-content-requires : tie.Need-put-content-requires Inv-loop μ-loop
 put-content-requires c κs = search needs

@@ -1,17 +1,12 @@
 use native.Mathlib.Numerals.{add-one}
 use borrow.Author.Needs.{needs}
 use Rattle.record.specs.Held.{letGo}
-use Rattle.record.proofs.HeldSteps.{marked-safe}
 use Rattle.record.proofs.held.let_go.Statement.{statement}
 use Rattle.record.proofs.held.let_go.Tie as tie
 
 returns : tie.Need-returns
 unfolding letGo
-returns c =
-    let start = c .before .before .before .before .before .before .before .before .before in
-    rw (c .marked .ensures)
-    (marked-safe (start .args .l) (c .before .before .before .clear-from .result) (start .args .contents .now) (c .before .before .before .clear-from .last .1 .0) (start .args .safe) _
-    (rw add-one at (c .before .before .before .clear-from .ensures)))
+returns c = rw (rw add-one at (c .before .before .clear-from .ensures))
 
 pub let-go-spec : {M : Type 1} → statement M
-let-go-spec = tie.close (tie.spec (λ c. search needs) (λ c. search needs) (λ c κs. search needs) (λ c κs. search needs) (λ c. search needs) returns)
+let-go-spec = tie.close (tie.spec (λ c. search needs) (λ c. search needs) (λ c κs. search needs) (λ c. search needs) returns)

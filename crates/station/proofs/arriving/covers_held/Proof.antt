@@ -1,47 +1,37 @@
-use Prim.Native.Nat.{ℕ, suc, _-_}
-use mathlib.Core.List.{List}
+use Prim.Native.Nat.{_-_, _<_}
+use mathlib.Core.Path.{_≡_}
+use native.Mathlib.Nat.{zero-add}
 use borrow.Author.Needs.{needs}
-use borrow.Author.Tests.{not-true, not-false}
 use Rattle.record.specs.Size.{mostHeld}
 use Rattle.record.specs.Head.{logOn}
-use Rattle.record.specs.Held.{holds}
-use Rattle.record.proofs.CountLaws.{Counting, count-starts, count-stops, count-goes, count-ends}
-use Rattle.station.proofs.ArriveLaws.{covers, covers-below, covers-rest, covers-at}
+use Rattle.record.proofs.CountLaws.{Gathered, gathered-starts, gathered-goes, gathered-ends}
+use Rattle.station.proofs.CoversLaws.{placeCovered, covers-below, covers-by-place}
 use Rattle.station.proofs.arriving.covers_held.Statement.{statement}
 use Rattle.station.proofs.arriving.covers_held.Tie as tie
 
 abbrev Inv-loop : tie.InvT-loop
-Inv-loop l highest senders safe i₀ i = (contents : List ℕ) → Counting (λ n. covers (logOn l contents) (highest .0) n) (suc (l .safe .0)) mostHeld i
+Inv-loop most senders covered last good₀ i₀ good i = (most ≡ mostHeld) × (last < mostHeld) × Gathered (placeCovered senders covered last) 0 mostHeld good i
 
 abbrev μ-loop : tie.MeasureT-loop
-μ-loop l highest senders safe i₀ i = mostHeld - i
+μ-loop most senders covered last good₀ i₀ good i = mostHeld - i
 
 returns : tie.Need-returns Inv-loop μ-loop
 returns c = λ contents. covers-below _ _ (c .if1 .taken)
 
 loop-holds : tie.Need-loop-holds Inv-loop μ-loop
-loop-holds c = λ contents. count-starts _ _ _
-
-returns-2 : tie.Need-returns-2 Inv-loop μ-loop
-unfolding holds
-returns-2 c = λ contents.
-    covers-rest _ _ _ (c .before .before .before .before .before .before .before .if1 .left)
-    (count-stops _ _ _ _
-    (c .before .before .before .before .before .loop .inv contents) (c .before .before .before .before .loop-test .taken)
-    (covers-at (logOn (c .before .before .before .before .before .before .before .before .before .before .args .l) contents) _ _ _ _ (c .before .is-held .ensures) (not-true _ (c .if2 .taken))))
+loop-holds c = (search needs, search needs, gathered-starts _ _ _)
 
 loop-again : tie.Need-loop-again Inv-loop μ-loop
-unfolding holds
-loop-again c = λ contents.
-    count-goes _ _ _ _
-    (c .before .before .before .before .before .loop .inv contents) (c .before .before .before .before .loop-test .taken)
-    (covers-at (logOn (c .before .before .before .before .before .before .before .before .before .before .args .l) contents) _ _ _ _ (c .before .is-held .ensures) (not-false _ (c .if2 .left)))
+loop-again c =
+    let so-far = c .before .loop .inv in
+    (so-far .0, so-far .1, rw (so-far .0) (rw zero-add at (gathered-goes _ _ _ _ _ (so-far .2) (c .loop-test .taken))))
 
-returns-3 : tie.Need-returns-3 Inv-loop μ-loop
-returns-3 c = λ contents. covers-rest _ _ _ (c .before .before .before .if1 .left) (count-ends _ _ _ _ (c .before .loop .inv contents) (c .loop-test .left))
+returns-2 : tie.Need-returns-2 Inv-loop μ-loop
+returns-2 c = λ contents.
+    covers-by-place (logOn (c .before .before .before .before .before .before .before .before .args .l) contents) (c .before .before .before .before .before .before .before .before .args .highest .0) _ (c .before .before .before .before .before .if1 .left)
+    (rw (c .before .before .before .less .ensures) at (gathered-ends _ _ _ _ _ (c .before .loop .inv .2) (c .loop-test .left)))
 
 pub covers-held-spec : {M : Type 1} → statement M
 covers-held-spec =
     tie.close
-    (tie.spec Inv-loop μ-loop returns loop-holds (λ c. search needs) (λ c. search needs) (λ c. search needs)
-    (λ c κs. search needs) returns-2 (λ c. search needs) (λ c. search needs) loop-again returns-3)
+    (tie.spec Inv-loop μ-loop returns (λ c. search needs) (λ c κs. search needs) (λ c. search needs) loop-holds (λ c. search needs) (λ c. search needs) (λ c. search needs) (λ c. search needs) (λ c. search needs) (λ c. search needs) (λ c. search needs) (λ c. search needs) (λ c. search needs) loop-again returns-2)

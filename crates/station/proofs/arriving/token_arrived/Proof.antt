@@ -8,7 +8,7 @@ use Rattle.record.specs.Layout.{logAt}
 use Rattle.record.specs.Ring.{ids, thisRing, tokenMembers}
 use Rattle.record.specs.declared.Record.{Record}
 use Rattle.station.specs.Arrive.{coversHeld}
-use Rattle.station.proofs.ArriveLaws.{leaves-both, refuses-both, count-fits, safe-most, ring-asked, members-asked, token-other-ring, token-not-member, token-elsewhere, token-old, token-last, token-below, token-passes}
+use Rattle.station.proofs.ArriveLaws.{leaves-both, refuses-both, count-fits, ring-asked, members-asked, token-other-ring, token-not-member, token-elsewhere, token-old, token-last, token-below, token-passes}
 use Rattle.station.proofs.arriving.token_arrived.Statement.{statement}
 use Rattle.station.proofs.arriving.token_arrived.Tie as tie
 
@@ -59,9 +59,6 @@ returns-5 c =
     refuses-both _ (begun .args .h) (begun .args .s .now) _ _ _ (begun .pre .0)
     (token-last (the-record begun) _ (this (c .before .before .before .before .before .before .before .before .before .before)) (members (c .before .before .before .before .before .before .before .before)) (c .before .before .before .before .before .if3 .left) (c .before .before .if4 .left) (c .if5 .taken))
 
-covers-held-requires : tie.Need-covers-held-requires
-covers-held-requires c κs = let begun = start (c .before .before .before .before .before .before .before .before .before .before) in safe-most (the-record begun) (begun .pre .0 .whole-record)
-
 returns-6 : tie.Need-returns-6
 returns-6 c =
     let begun = start (c .before .before .before .before .before .before .before .before .before .before .before .before) in
@@ -107,4 +104,4 @@ token-arrived-spec =
     (tie.spec (λ c. search needs) (λ c. search needs) (λ c. search needs) part-ids-end (λ c κs. search needs)
     returns (λ c κs. search needs) returns-2
     returns-3 returns-4 returns-5
-    covers-held-requires returns-6 accept-requires (λ c. search needs) (λ c. search needs) (λ c. search needs) returns-7)
+    (λ c κs. search needs) returns-6 accept-requires (λ c. search needs) (λ c. search needs) (λ c. search needs) returns-7)

@@ -11,6 +11,12 @@ use Rattle.station.proofs.forwarding.token_after.Tie as tie
 abbrev the-visit : tie.Start → Visit
 the-visit c = visit (recordIn (c .args .h) (c .args .s .now)) (c .args .t)
 
+cast-n : tie.Need-cast-n
+cast-n c =
+    let start = c .before .before .before in
+    let fit = members-fit (the-visit start) (start .pre .0) in
+    search needs
+
 ring-header-requires : tie.Need-ring-header-requires
 ring-header-requires c κs = let start = c .before .before .before .before .before in members-fit (the-visit start) (start .pre .0) .0
 
@@ -39,5 +45,5 @@ returns c =
 pub token-after-spec : {M : Type 1} → statement M
 token-after-spec =
     tie.close
-    (tie.spec (λ c. search needs) ring-header-requires (λ c. search needs) (λ c. search needs) part-next-member-end
+    (tie.spec cast-n ring-header-requires (λ c. search needs) (λ c. search needs) part-next-member-end
     (λ c κs. search needs) (λ c. search needs) add-t21 (λ c κs. search needs) round-after-requires returns)

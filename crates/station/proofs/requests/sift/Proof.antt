@@ -1,5 +1,5 @@
 use Prim.Native.Nat.{ℕ, _-_, _<_}
-use mathlib.Core.Path.{sym, ap, _∙_}
+use mathlib.Core.Path.{refl, sym, ap, _∙_}
 use mathlib.Core.List.{List, []}
 use lib.ListN.{length}
 use mathlib.Core.Logic.{⊎-elim}
@@ -8,26 +8,30 @@ use borrow.Author.Needs.{needs}
 use Rattle.frames.specs.Layout.{mostRequests}
 use Rattle.record.specs.Head.{logOn}
 use Rattle.record.specs.Held.{holds}
+use Rattle.station.specs.Steps.{listed}
 use Rattle.station.proofs.ListedLaws.{Gathered, gathered-none, gathered-few, gathered-takes, gathered-leaves, gathered-all}
 use Rattle.station.proofs.requests.sift.Statement.{statement}
 use Rattle.station.proofs.requests.sift.Tie as tie
 
 abbrev Inv-loop : tie.InvT-loop
-Inv-loop l requests senders held₀ rest₀ i₀ held rest i =
-    (contents : List ℕ) → Gathered (holds (logOn l contents)) requests i held × Gathered (λ n. not (holds (logOn l contents) n)) requests i rest
+Inv-loop l requests senders held₀ rest₀ repeats₀ left₀ i₀ held rest repeats left i =
+    (contents : List ℕ)
+    → Gathered (holds (logOn l contents)) requests i (record { numbers = held; count = repeats })
+    × Gathered (λ n. not (holds (logOn l contents) n)) requests i (record { numbers = rest; count = left })
 
 abbrev μ-loop : tie.MeasureT-loop
-μ-loop l requests senders held₀ rest₀ i₀ held rest i = length requests - i
+μ-loop l requests senders held₀ rest₀ repeats₀ left₀ i₀ held rest repeats left i = length requests - i
 
 loop-holds : tie.Need-loop-holds Inv-loop μ-loop
-loop-holds c = λ contents. (gathered-none _ _ (c .before .none-listed .ensures), gathered-none _ _ (c .none-listed2 .ensures))
+unfolding listed
+loop-holds c = λ contents. (gathered-none _ _ refl, gathered-none _ _ refl)
 
 -- both lists have a place left for this request
-room : (c : tie.After-is-held Inv-loop μ-loop) → (c .before .before .before .before .loop .held .count < mostRequests) × (c .before .before .before .before .loop .rest .count < mostRequests)
+room : (c : tie.After-is-held Inv-loop μ-loop) → (c .before .before .before .before .loop .repeats < mostRequests) × (c .before .before .before .before .loop .left < mostRequests)
 room c =
     let at = c .before .before .before .before .loop .inv [] in
     let more = c .before .before .before .loop-test .taken in
-    let few = c .before .before .before .before .before .before .before .before .before .pre .1 in
+    let few = c .before .before .before .before .before .before .before .pre .1 in
     (gathered-few _ _ _ _ (at .0) more few, gathered-few _ _ _ _ (at .1) more few)
 
 cast-place : tie.Need-cast-place Inv-loop μ-loop
@@ -36,11 +40,11 @@ cast-place c = let few = room (c .before) .0 in search needs
 mul-held : tie.Need-mul-held Inv-loop μ-loop
 mul-held c = let few = room (c .before) .0 in search needs
 
-element-write-held : tie.Need-element-write-held Inv-loop μ-loop
-element-write-held c = let few = room (c .before) .0 in search needs
+array-write-held : tie.Need-array-write-held Inv-loop μ-loop
+array-write-held c = let few = room (c .before) .0 in search needs
 
-add-held : tie.Need-add-held Inv-loop μ-loop
-add-held c = let few = room (c .before) .0 in search needs
+add-repeats : tie.Need-add-repeats Inv-loop μ-loop
+add-repeats c = let few = room (c .before) .0 in search needs
 
 cast-place-2 : tie.Need-cast-place-2 Inv-loop μ-loop
 cast-place-2 c = let few = room (c .before) .1 in search needs
@@ -48,27 +52,27 @@ cast-place-2 c = let few = room (c .before) .1 in search needs
 mul-rest : tie.Need-mul-rest Inv-loop μ-loop
 mul-rest c = let few = room (c .before) .1 in search needs
 
-element-write-rest : tie.Need-element-write-rest Inv-loop μ-loop
-element-write-rest c = let few = room (c .before) .1 in search needs
+array-write-rest : tie.Need-array-write-rest Inv-loop μ-loop
+array-write-rest c = let few = room (c .before) .1 in search needs
 
-add-rest : tie.Need-add-rest Inv-loop μ-loop
-add-rest c = let few = room (c .before) .1 in search needs
+add-left : tie.Need-add-left Inv-loop μ-loop
+add-left c = let few = room (c .before) .1 in search needs
 
 loop-again : tie.Need-loop-again Inv-loop μ-loop
 unfolding holds
 loop-again c = λ contents.
     let at = c .before .before .before .before .before .loop .inv contents in
     let more = c .before .before .before .before .loop-test .taken in
-    let few = c .before .before .before .before .before .before .before .before .before .before .pre .1 in
+    let few = c .before .before .before .before .before .before .before .before .pre .1 in
     let known = sym (c .before .is-held .ensures) in
     ⊎-elim
     (λ w. (
-      gathered-takes _ _ _ _ (at .0) more few (known ∙ w .0 .taken) (w .1),
-      gathered-leaves _ _ _ _ (at .1) more few (ap not (known ∙ w .0 .taken)) (w .2),
+      gathered-takes _ _ _ _ (at .0) more few (known ∙ w .0 .taken) (rw (w .1, w .3)),
+      gathered-leaves _ _ _ _ (at .1) more few (ap not (known ∙ w .0 .taken)) (rw (w .2, w .4)),
     ))
     (λ w. (
-      gathered-leaves _ _ _ _ (at .0) more few (known ∙ w .0 .left) (w .1),
-      gathered-takes _ _ _ _ (at .1) more few (ap not (known ∙ w .0 .left)) (w .2),
+      gathered-leaves _ _ _ _ (at .0) more few (known ∙ w .0 .left) (rw (w .1, w .3)),
+      gathered-takes _ _ _ _ (at .1) more few (ap not (known ∙ w .0 .left)) (rw (w .2, w .4)),
     ))
     (c .if1 .came)
 
@@ -78,4 +82,4 @@ returns c = λ contents. rw (gathered-all _ _ _ _ (c .before .loop .inv contents
 pub sift-spec : {M : Type 1} → statement M
 sift-spec =
     tie.close
-    (tie.spec Inv-loop μ-loop (λ c κs. search needs) (λ c κs. search needs) loop-holds (λ c. search needs) (λ c. search needs) (λ c κs. search needs) cast-place mul-held element-write-held add-held cast-place-2 mul-rest element-write-rest add-rest (λ c. search needs) (λ c. search needs) loop-again returns)
+    (tie.spec Inv-loop μ-loop loop-holds (λ c. search needs) (λ c. search needs) (λ c κs. search needs) cast-place mul-held array-write-held add-repeats cast-place-2 mul-rest array-write-rest add-left (λ c. search needs) (λ c. search needs) loop-again returns)
