@@ -2,68 +2,13 @@
 
 #include <string.h>
 
-#include "station.h"
+#include "making.h"
 #include "words.h"
 
 /* no more new messages: the others have broadcast as many as a round may have */
 enum { FULL_ROUND = 24 };
 
 const char *const fill_names[FILLS] = {"fresh", "half full", "full"};
-
-/* a trial that is being made: the station's record as values, and what comes of it */
-struct making {
-    struct station s;
-    struct trial t;
-};
-
-static void wants(struct making *m, unsigned outcome, size_t written, size_t delivered)
-{
-    m->t.wanted = (totem_answer){.outcome = (uint16_t)outcome, .frames = (uint16_t)written,
-                                 .deliveries = (uint16_t)delivered};
-}
-
-static void wants_refusal(struct making *m, unsigned number)
-{
-    m->t.wanted = (totem_answer){.refusal = (uint16_t)number};
-}
-
-static void hand_message(struct making *m, uint32_t number, uint16_t service)
-{
-    struct held message = {number, 3, service, some_content(CONTENT_ROOM, number)};
-
-    m->t.call = ARRIVE;
-    m->t.size = message_bytes(&m->s, &message, m->t.frame);
-}
-
-/* a token behind the one forwarded last; the station has all that the ring has, and so have the others */
-static struct token next_token(const struct making *m, uint16_t round)
-{
-    struct token t = first_token(m->s.ring, 3);
-
-    t.addressee = m->s.own;
-    t.number = m->s.token_number + 1;
-    t.highest = t.aru = m->s.level;
-    t.round = round;
-    return t;
-}
-
-static void hand_token(struct making *m, struct token t)
-{
-    m->t.call = ARRIVE;
-    m->t.size = token_bytes(&t, m->t.frame);
-}
-
-static void visited(struct making *m)
-{
-    m->s.token = next_token(m, 0);
-    m->s.token.number++;
-    m->s.token.addressee = 9;
-    m->s.token_number = m->s.token.number;
-    m->s.aru = m->s.level;
-    m->s.leave = true;
-}
-
-/* ---- the kinds */
 
 static void founding(struct making *m)
 {
@@ -89,6 +34,16 @@ static void kept(struct making *m)
 {
     hand_message(m, m->s.level + 1, TOTEM_SAFE);
     wants(m, TOTEM_KEPT, 0, 0);
+}
+
+/* all that is held waits for message 1 */
+static void gap_closed(struct making *m)
+{
+    for (unsigned i = 0; i < m->s.held_count; i++)
+        m->s.held[i].number++;
+    m->s.level = m->s.delivered = 0;
+    hand_message(m, 1, TOTEM_AGREED);
+    wants(m, TOTEM_KEPT, 0, (m->s.held_count + 1u) * MESSAGE_ROOM);
 }
 
 static void had(struct making *m)
@@ -123,6 +78,33 @@ static void visit_with_repeats(struct making *m)
         t.requests[t.count] = t.count + 1;
     hand_token(m, t);
     wants(m, TOTEM_ACCEPTED, REQUEST_PLACES * MESSAGE_ROOM + TOKEN_LEAST, 0);
+}
+
+/* the ring has 16 messages more; this station and 9 lack them */
+static struct token behind_token(const struct making *m)
+{
+    struct token t = next_token(m, FULL_ROUND);
+
+    t.highest += REQUEST_PLACES;
+    t.blocker = 9;
+    return t;
+}
+
+static void visit_with_missing(struct making *m)
+{
+    hand_token(m, behind_token(m));
+    wants(m, TOTEM_ACCEPTED, TOKEN_LEAST + 4 * REQUEST_PLACES, 0);
+}
+
+/* 9 has asked for them */
+static void visit_with_requests(struct making *m)
+{
+    struct token t = behind_token(m);
+
+    for (t.count = 0; t.count < REQUEST_PLACES; t.count++)
+        t.requests[t.count] = m->s.level + t.count + 1;
+    hand_token(m, t);
+    wants(m, TOTEM_ACCEPTED, TOKEN_LEAST + 4 * REQUEST_PLACES, 0);
 }
 
 /* with this visit all held ones are known to be received by all */
@@ -163,6 +145,13 @@ static void wrong_length(struct making *m)
     wants_refusal(m, TOTEM_WRONG_LENGTH);
 }
 
+static void other_kind(struct making *m)
+{
+    kept(m);
+    put(m->t.frame + T_KIND, 2, 3);
+    wants_refusal(m, TOTEM_OTHER_KIND);
+}
+
 static void malformed(struct making *m)
 {
     hand_message(m, m->s.level + 1, 2);
@@ -174,6 +163,13 @@ static void other_ring(struct making *m)
     kept(m);
     put(m->t.frame + T_RING, 4, m->s.ring + 1);
     wants_refusal(m, TOTEM_OTHER_RING);
+}
+
+static void not_member(struct making *m)
+{
+    kept(m);
+    put(m->t.frame + M_SENDER, 2, 8);
+    wants_refusal(m, TOTEM_NOT_MEMBER);
 }
 
 static void other_addressee(struct making *m)
@@ -192,6 +188,24 @@ static void old_token(struct making *m)
     wants_refusal(m, TOTEM_OLD_TOKEN);
 }
 
+static void last_token(struct making *m)
+{
+    struct token t = next_token(m, 0);
+
+    t.number = TOTEM_MOST_NUMBER;
+    hand_token(m, t);
+    wants_refusal(m, TOTEM_LAST_TOKEN);
+}
+
+static void below_held(struct making *m)
+{
+    struct token t = next_token(m, 0);
+
+    t.highest = t.aru = m->s.level - 1;
+    hand_token(m, t);
+    wants_refusal(m, TOTEM_BELOW_HELD);
+}
+
 static const struct kind {
     const char *name;
     void (*make)(struct making *m);
@@ -201,20 +215,27 @@ static const struct kind {
     {"post", post, 0, 32, 0, 15},
     {"message, kept and delivered", kept_and_delivered, 0, 31, 0, 16},
     {"message, kept (safe)", kept, 0, 31, 0, 16},
+    {"message, a gap closed, all delivered", gap_closed, 8, 31, 0, 16},
     {"message, had", had, 1, 32, 0, 16},
     {"message, ahead", ahead, 0, 32, 0, 16},
     {"visit, nothing new", idle_visit, 0, 32, 0, 16},
     {"visit, 8 new messages", visit_with_new, 0, 24, 8, 16},
     {"visit, 16 repeats", visit_with_repeats, 16, 32, 0, 16},
+    {"visit, 16 missing asked for", visit_with_missing, 0, 16, 0, 16},
+    {"visit, 16 requests left", visit_with_requests, 0, 16, 0, 16},
     {"visit, held ones let go", visit_letting_go, 8, 32, 0, 16},
     {"visit, held ones (safe) delivered and let go", visit_delivering, 8, 32, 0, 16},
     {"resend", resend, 0, 32, 0, 16},
     {"refused 2: record not whole", not_whole, 0, 31, 0, 16},
     {"refused 10: wrong length", wrong_length, 0, 31, 0, 16},
+    {"refused 11: other kind", other_kind, 0, 31, 0, 16},
     {"refused 12: malformed", malformed, 0, 31, 0, 16},
     {"refused 13: other ring", other_ring, 0, 31, 0, 16},
+    {"refused 14: not a member", not_member, 0, 31, 0, 16},
     {"refused 15: token for another", other_addressee, 0, 32, 0, 16},
     {"refused 16: token repeated", old_token, 0, 32, 0, 16},
+    {"refused 17: the last token", last_token, 0, 32, 0, 16},
+    {"refused 18: below what is held", below_held, 1, 32, 0, 16},
 };
 
 size_t trial_kinds(void)
@@ -230,20 +251,6 @@ const char *trial_name(size_t kind)
 static unsigned within(unsigned value, unsigned least, unsigned most)
 {
     return value < least ? least : value > most ? most : value;
-}
-
-/* station 7 of 3, 7 and 9: messages 1 to `held` held and delivered, `posts` posts waiting, all of 64 bytes */
-static struct station filled(unsigned held, unsigned posts)
-{
-    static const uint16_t members[] = {3, 7, 9};
-    struct station s = fresh_station(7, 4, 3, members);
-
-    for (uint32_t n = 1; n <= held; n++)
-        hold(&s, n, members[n % 3], TOTEM_AGREED, some_content(CONTENT_ROOM, n));
-    for (unsigned i = 0; i < posts; i++)
-        add_post(&s, TOTEM_AGREED, some_content(CONTENT_ROOM, 100 + i).bytes, CONTENT_ROOM);
-    s.level = s.delivered = held;
-    return s;
 }
 
 struct trial trial_of(size_t kind, enum fill fill)

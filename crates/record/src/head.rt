@@ -2,7 +2,7 @@
 // so a head is small and goes by value where the whole would be copied. A count stands last in it, behind the
 // arrays: there is no hole between fields, and a copy moves them by whole words.
 ghost use mathlib.Core.Path.{_≡_};
-ghost use Rattle.record.specs.Head.{recordOn};
+ghost use Rattle.record.specs.Head.{recordOn, headWith};
 use crate::Record;
 use crate::log::Held;
 use crate::log::Log;
@@ -35,6 +35,48 @@ pub struct Head {
     pub log: LogHead,
     pub turn: Turn,
     pub posts: PostsHead,
+}
+
+// The head of a log with other marks and other places. Ruled out: two marks swapped; a member left out.
+pub fn head_with(
+    l: LogHead,
+    level: MessageNumber,
+    safe: MessageNumber,
+    delivered: MessageNumber,
+    senders: [u16; size::MOST_HELD],
+    services: [u16; size::MOST_HELD],
+    lengths: [u8; size::MOST_HELD],
+) -> LogHead
+    ensures { λ r. ⌜ r ≡ headWith l level safe delivered senders services lengths ⌝ }
+{
+    let ring = l.ring;
+    let members = l.members;
+    LogHead {
+        ring,
+        members,
+        level,
+        safe,
+        delivered,
+        senders,
+        services,
+        lengths,
+        count: l.count,
+    }
+}
+
+// With other marks alone. Ruled out: two marks swapped; a place emptied.
+pub fn marked(
+    l: LogHead,
+    level: MessageNumber,
+    safe: MessageNumber,
+    delivered: MessageNumber,
+) -> LogHead
+    ensures { λ r. ⌜ r ≡ headWith l level safe delivered (l .senders) (l .services) (l .lengths) ⌝ }
+{
+    let senders = l.senders;
+    let services = l.services;
+    let lengths = l.lengths;
+    head_with(l, level, safe, delivered, senders, services, lengths)
 }
 
 // A record without its contents.

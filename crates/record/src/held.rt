@@ -9,8 +9,9 @@ ghost use lib.Seq.{sets};
 ghost use Rattle.frames.specs.Number.{mostNumber};
 ghost use Rattle.frames.specs.Layout.{mostContent};
 ghost use Rattle.record.specs.Size.{mostHeld, heldContents};
-ghost use Rattle.record.specs.Head.{logOn, headWith};
+ghost use Rattle.record.specs.Head.{logOn};
 ghost use Rattle.record.specs.Held.{placeOf, heldOf, heldWith, stored, clearedFrom, letGo};
+use crate::head;
 use crate::head::LogHead;
 use crate::size;
 use frames::MessageNumber;
@@ -25,33 +26,6 @@ pub fn is_held(safe: MessageNumber, senders: &[u16; size::MOST_HELD], n: Message
 {
     let place = n.0 as usize % size::MOST_HELD;
     (safe.0 < n.0) & (n.0 <= safe.0 + size::MOST_HELD as u32) & (senders[place] != 0)
-}
-
-// The head with other marks. Ruled out: two marks swapped; a member left out.
-pub fn marked(
-    l: LogHead,
-    level: MessageNumber,
-    safe: MessageNumber,
-    delivered: MessageNumber,
-) -> LogHead
-    ensures { λ r. ⌜ r ≡ headWith l level safe delivered (l .senders) (l .services) (l .lengths) ⌝ }
-{
-    let ring = l.ring;
-    let members = l.members;
-    let senders = l.senders;
-    let services = l.services;
-    let lengths = l.lengths;
-    LogHead {
-        ring,
-        count: l.count,
-        members,
-        level,
-        safe,
-        delivered,
-        senders,
-        services,
-        lengths,
-    }
 }
 
 // A content at its place among those held.
@@ -104,11 +78,6 @@ pub fn store(
         ≡ stored (logOn l (now (contents .entry))) (n .0)
         (record { sender = sender; service = service; content = now (content .entry) }) ⌝ }
 {
-    let ring = l.ring;
-    let members = l.members;
-    let level = l.level;
-    let safe = l.safe;
-    let delivered = l.delivered;
     let mut senders = l.senders;
     let mut services = l.services;
     let mut lengths = l.lengths;
@@ -122,17 +91,7 @@ pub fn store(
         service,
         content,
     );
-    LogHead {
-        ring,
-        count: l.count,
-        members,
-        level,
-        safe,
-        delivered,
-        senders,
-        services,
-        lengths,
-    }
+    head::head_with(l, l.level, l.safe, l.delivered, senders, services, lengths)
 }
 
 // The places of n numbers, from `first` on, are cleared where they are lent.
@@ -168,10 +127,6 @@ pub fn let_go(l: LogHead, contents: &mut [u8], safe: MessageNumber) -> LogHead
         (l .safe .0 ≤ safe .0) × (safe .0 ≤ mostNumber) × (length (now contents) ≡ heldContents) ⌝ }
     ensures { λ r. ⌜ logOn r (now (contents .exit)) ≡ letGo (logOn l (now (contents .entry))) (safe .0) ⌝ }
 {
-    let ring = l.ring;
-    let members = l.members;
-    let level = l.level;
-    let delivered = l.delivered;
     let mut senders = l.senders;
     let mut services = l.services;
     let mut lengths = l.lengths;
@@ -183,15 +138,5 @@ pub fn let_go(l: LogHead, contents: &mut [u8], safe: MessageNumber) -> LogHead
         l.safe.0 + 1,
         safe.0 - l.safe.0,
     );
-    LogHead {
-        ring,
-        count: l.count,
-        members,
-        level,
-        safe,
-        delivered,
-        senders,
-        services,
-        lengths,
-    }
+    head::head_with(l, l.level, safe, l.delivered, senders, services, lengths)
 }

@@ -83,9 +83,8 @@ module _ (test : ℕ → Bool) (xs : List ℕ) (i : ℕ) (r : Requests) (g : Gat
 
 -- ---- is a number wanted?
 
-pub wanted : {h k a v : Bool} (b : Bool) → h ≡ a → k ≡ not b → not h && not k ≡ v → not a && b ≡ v
-wanted true e f t = rw (e, f) at t
-wanted false e f t = rw (e, f) at t
+pub wanted : {h k a b v : Bool} → h ≡ a → k ≡ b → not h && k ≡ v → not a && b ≡ v
+wanted e f t = rw (e, f) at t
 
 -- ---- missing numbers, as far as there are places
 

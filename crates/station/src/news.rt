@@ -28,14 +28,10 @@ pub fn hold_news(h: Head, s: &[u8], highest: MessageNumber, n: u32) -> LogHead
         (take n (waiting (recordIn h (now (s .entry)) .posts)))) ⌝ }
 {
     let posts = h.posts;
-    let ring = h.log.ring;
-    let members = h.log.members;
-    let level = h.log.level;
-    let safe = h.log.safe;
-    let delivered = h.log.delivered;
-    let mut senders = h.log.senders;
-    let mut services = h.log.services;
-    let mut lengths = h.log.lengths;
+    let log = h.log;
+    let mut senders = log.senders;
+    let mut services = log.services;
+    let mut lengths = log.lengths;
     let mut i = 0;
     while i < n {
         let post = i as usize;
@@ -45,17 +41,15 @@ pub fn hold_news(h: Head, s: &[u8], highest: MessageNumber, n: u32) -> LogHead
         lengths[place] = posts.lengths[post];
         i += 1;
     }
-    LogHead {
-        ring,
-        count: h.log.count,
-        members,
-        level,
-        safe,
-        delivered,
+    record::head_with(
+        log,
+        log.level,
+        log.safe,
+        log.delivered,
         senders,
         services,
         lengths,
-    }
+    )
 }
 
 // Their contents go from the posts to where they are held. Ruled out: another post's content; a post's own

@@ -3,8 +3,8 @@
 ghost use mathlib.Core.Path.{_≡_};
 ghost use mathlib.Core.Bool.{not, _&&_};
 ghost use mathlib.Core.List.{List, _++_};
-ghost use Prim.Native.Nat.{ℕ, _+_, _-_, _≤_, _<_};
-ghost use lib.ListN.{length, take, set};
+ghost use Prim.Native.Nat.{ℕ, _-_, _≤_};
+ghost use lib.ListN.{length, take};
 ghost use Rattle.words.specs.Scan.{lacks};
 ghost use Rattle.frames.specs.Number.{mostNumber};
 ghost use Rattle.frames.specs.Layout.{mostRequests};
@@ -19,20 +19,6 @@ use record::LogHead;
 pub struct Requests {
     pub numbers: [u32; frames::MOST_REQUESTS],
     pub count: u16,
-}
-
-// One more, behind the others.
-fn add(r: Requests, n: u32) -> Requests
-    requires { ⌜ r .count < mostRequests ⌝ }
-    ensures { λ s. ⌜ s ≡ record { count = r .count + 1; numbers = set (r .numbers) (r .count) n } ⌝ }
-{
-    let mut numbers = r.numbers;
-    let place = r.count as usize;
-    numbers[place] = n;
-    Requests {
-        count: r.count + 1,
-        numbers,
-    }
 }
 
 // Requests apart: those whose message is held, and the rest.
@@ -80,16 +66,6 @@ pub fn sift(l: LogHead, requests: &[u32]) -> Sifted
     }
 }
 
-// Is this number among the requests?
-fn is_listed(r: Requests, n: u32) -> bool
-    requires { ⌜ r .count ≤ mostRequests ⌝ }
-    ensures { λ b. ⌜ b ≡ not (lacks (listIn r) n) ⌝ }
-{
-    let numbers = r.numbers;
-    let count = r.count as usize;
-    !words::lacks_u32(&numbers[0..count], n)
-}
-
 // 7. The numbers above `level` up to `top` that are neither held nor among `asked` are added, lowest first,
 // up to 16. Ruled out: a number asked for twice; the highest first.
 pub fn add_missing(
@@ -110,18 +86,24 @@ pub fn add_missing(
         (numbersAfter (level .0) (top .0 - level .0))))) ⌝ }
 {
     let senders = l.senders;
-    let mut all = asked;
+    let rest = asked.numbers;
+    let size = asked.count as usize;
+    let mut numbers = asked.numbers;
+    let mut count = asked.count;
     let mut last = level.0;
     while last < top.0 {
-        if frames::MOST_REQUESTS <= all.count as usize {
-            return all;
+        if frames::MOST_REQUESTS <= count as usize {
+            return Requests { numbers, count };
         }
         let n = last + 1;
-        let wanted = !record::is_held(l.safe, &senders, MessageNumber(n)) & !is_listed(asked, n);
+        let free = !record::is_held(l.safe, &senders, MessageNumber(n));
+        let wanted = free & words::lacks_u32(&rest[0..size], n);
         if wanted {
-            all = add(all, n);
+            let place = count as usize;
+            numbers[place] = n;
+            count += 1;
         }
         last = n;
     }
-    all
+    Requests { numbers, count }
 }

@@ -1,0 +1,60 @@
+#include "making.h"
+
+struct station filled(unsigned held, unsigned posts)
+{
+    static const uint16_t members[] = {3, 7, 9};
+    struct station s = fresh_station(7, 4, 3, members);
+
+    for (uint32_t n = 1; n <= held; n++)
+        hold(&s, n, members[n % 3], TOTEM_AGREED, some_content(CONTENT_ROOM, n));
+    for (unsigned i = 0; i < posts; i++)
+        add_post(&s, TOTEM_AGREED, some_content(CONTENT_ROOM, 100 + i).bytes, CONTENT_ROOM);
+    s.level = s.delivered = held;
+    return s;
+}
+
+void wants(struct making *m, unsigned outcome, size_t written, size_t delivered)
+{
+    m->t.wanted = (totem_answer){.outcome = (uint16_t)outcome, .frames = (uint16_t)written,
+                                 .deliveries = (uint16_t)delivered};
+}
+
+void wants_refusal(struct making *m, unsigned number)
+{
+    m->t.wanted = (totem_answer){.refusal = (uint16_t)number};
+}
+
+void hand_message(struct making *m, uint32_t number, uint16_t service)
+{
+    struct held message = {number, 3, service, some_content(CONTENT_ROOM, number)};
+
+    m->t.call = ARRIVE;
+    m->t.size = message_bytes(&m->s, &message, m->t.frame);
+}
+
+struct token next_token(const struct making *m, uint16_t round)
+{
+    struct token t = first_token(m->s.ring, 3);
+
+    t.addressee = m->s.own;
+    t.number = m->s.token_number + 1;
+    t.highest = t.aru = m->s.level;
+    t.round = round;
+    return t;
+}
+
+void hand_token(struct making *m, struct token t)
+{
+    m->t.call = ARRIVE;
+    m->t.size = token_bytes(&t, m->t.frame);
+}
+
+void visited(struct making *m)
+{
+    m->s.token = next_token(m, 0);
+    m->s.token.number++;
+    m->s.token.addressee = 9;
+    m->s.token_number = m->s.token.number;
+    m->s.aru = m->s.level;
+    m->s.leave = true;
+}
