@@ -77,6 +77,16 @@ headOf l =
       lengths = l .held .lengths;
     }
 
+-- the head of a record
+abbrev pub recordHead : Record → Head
+recordHead r =
+    record {
+      own = r .own;
+      log = headOf (r .log);
+      turn = r .turn;
+      posts = record { count = r .posts .count; services = r .posts .services; lengths = r .posts .lengths };
+    }
+
 -- the record with other posts
 abbrev pub withPosts : Record → Posts → Record
 withPosts r posts = record { own = r .own; log = r .log; turn = r .turn; posts = posts }

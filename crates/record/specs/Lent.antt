@@ -1,6 +1,5 @@
 -- A record lent as bytes. [document 01, The station and its neighbours: another length isn't whole]
 use Prim.Native.Nat.{ℕ}
-use mathlib.Core.Path.{_≡_}
 use mathlib.Core.Bool.{Bool, cond}
 use mathlib.Core.List.{List, []}
 use lib.ListN.{length}
@@ -9,8 +8,6 @@ use Rattle.record.specs.Layout.{recordSize}
 use Rattle.record.specs.Whole.{whole}
 use Rattle.record.specs.Fresh.{fresh}
 use Rattle.record.specs.Bytes.{recordOf}
-use Rattle.record.specs.Head.{recordIn}
-use Rattle.record.specs.declared.head.Head.{Head}
 use Rattle.record.specs.declared.Record.{Record}
 
 -- the record of nobody: it has no members, so it isn't whole
@@ -23,7 +20,3 @@ lent s = cond (eqb (length s) recordSize) (recordOf s) noRecord
 
 abbrev pub bytesWhole : List ℕ → Bool
 bytesWhole s = whole (lent s)
-
--- the head of the record that is lent; of bytes that have none, any
-abbrev pub HeadOf : Head → List ℕ → Type 0
-HeadOf h s = length s ≡ recordSize → recordIn h s ≡ lent s

@@ -2,7 +2,7 @@
 // so a head is small and goes by value where the whole would be copied. A count stands last in it, behind the
 // arrays: there is no hole between fields, and a copy moves them by whole words.
 ghost use mathlib.Core.Path.{_≡_};
-ghost use Rattle.record.specs.Head.{recordOn, headWith};
+ghost use Rattle.record.specs.Head.{recordOn, recordHead, headWith};
 use crate::Record;
 use crate::log::Held;
 use crate::log::Log;
@@ -81,7 +81,7 @@ pub fn marked(
 
 // A record without its contents.
 pub fn head_of(r: Record) -> Head
-    ensures { λ h. ⌜ recordOn h (r .log .held .contents) (r .posts .contents) ≡ r ⌝ }
+    ensures { λ h. ⌜ h ≡ recordHead r ⌝ }
 {
     let ring = r.log.ring;
     let members = r.log.members;

@@ -9,8 +9,8 @@ ghost use Rattle.record.specs.Size.{mostPosts};
 ghost use Rattle.record.specs.Held.{placeOf, stored, letGo};
 ghost use Rattle.record.specs.Posts.{taken};
 ghost use Rattle.record.specs.Layout.{recordSize, logAt, postsAt};
-ghost use Rattle.record.specs.Head.{logOn, postsOn, contentsIn, waitingIn};
-ghost use Rattle.record.specs.Lent.{HeadOf, bytesWhole};
+ghost use Rattle.record.specs.Head.{logOn, postsOn, contentsIn, waitingIn, recordHead};
+ghost use Rattle.record.specs.Lent.{lent, bytesWhole};
 use crate::bytes;
 use crate::fresh;
 use crate::head::Head;
@@ -27,7 +27,7 @@ use frames::RingNumber;
 // The head of the record, for whatever comes next; bytes of another length have the head of nobody's record.
 // Ruled out: two marks swapped; the head of a record at the front of a longer slice.
 pub fn head_in(s: &[u8]) -> Head
-    ensures { λ r. ⌜ HeadOf r (now (s .entry)) ⌝ }
+    ensures { λ r. ⌜ r ≡ recordHead (lent (now (s .entry))) ⌝ }
 {
     if s.len() != layout::RECORD_SIZE {
         let nobody = [0u16; size::MOST_MEMBERS];
@@ -39,7 +39,7 @@ pub fn head_in(s: &[u8]) -> Head
 // Is the record whole, whose head this is? Its contents are looked at where they stand. Ruled out: a longer
 // slice with a whole record at its front; a content past its length not looked at.
 pub fn is_whole_at(h: Head, s: &[u8]) -> bool
-    requires { ⌜ HeadOf h (now s) ⌝ }
+    requires { ⌜ h ≡ recordHead (lent (now s)) ⌝ }
     ensures { λ b. ⌜ b ≡ bytesWhole (now (s .entry)) ⌝ }
 {
     if s.len() != layout::RECORD_SIZE {

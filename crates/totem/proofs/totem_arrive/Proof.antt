@@ -7,6 +7,7 @@ use borrow.Author.Tests.{not-true, not-false}
 use borrow.Author.Needs.{needs}
 use Rattle.record.specs.Head.{recordIn}
 use Rattle.record.specs.Lent.{lent, bytesWhole}
+use Rattle.record.proofs.LentLaws.{own-head}
 use Rattle.totem.proofs.OverLaws.{whole-long, head-there, arrive-not-whole, arrive-over}
 use Rattle.totem.proofs.totem_arrive.Statement.{statement}
 use Rattle.totem.proofs.totem_arrive.Tie as tie
@@ -28,7 +29,7 @@ is-whole : (c : tie.Else1) → bytesWhole (begun c .args .bytes .now) ≡ true
 is-whole c = sym (c .before .is-whole-at .ensures) ∙ not-false _ (c .if1 .left)
 
 its-head : (c : tie.Else1) → recordIn (c .before .before .before .head-in .result) (begun c .args .bytes .now) ≡ lent (begun c .args .bytes .now)
-its-head c = c .before .before .before .head-in .ensures (whole-long _ (is-whole c))
+its-head c = own-head _ _ (whole-long _ (is-whole c)) (c .before .before .before .head-in .ensures)
 
 arrive-in-requires : tie.Need-arrive-in-requires
 arrive-in-requires c κs = let found = c .before .before .before in head-there _ _ (bytes found) (is-whole found) (its-head found)

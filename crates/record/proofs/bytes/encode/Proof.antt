@@ -1,5 +1,8 @@
+use mathlib.Core.Path.{ap}
 use native.Mathlib.Omega.{arith}
 use borrow.Author.Needs.{needs}
+use Rattle.record.specs.Head.{recordOn}
+use Rattle.record.specs.declared.head.Head.{Head}
 use Rattle.record.proofs.Arrays.{RecordArrays}
 use Rattle.record.proofs.PutLaws.{encoded}
 use Rattle.record.proofs.bytes.encode.Statement.{statement}
@@ -30,7 +33,11 @@ put-head-requires : tie.Need-put-head-requires
 put-head-requires c κs = omega (arith, c .before .before .before .before .before .before .before .before .before .before .before .before .before .before .before .pre, c .before .before .before .before .before .before .before .before .before .put-bytes .kept .0, c .before .before .before .before .put-bytes2 .kept .0)
 
 returns : tie.Need-returns
-returns c = encoded _ _ _ _ _ _ _ _ (arrays (c .before .before .before .before .before .before .before .before .before .before .before .before .before .before .before .before .before .before) .log .held .contents) (arrays (c .before .before .before .before .before .before .before .before .before .before .before .before .before .before .before .before .before .before) .posts .contents) (c .before .before .before .before .before .before .before .before .before .before .before .before .before .before .before .before .before .before .pre) (c .before .before .before .before .before .before .before .before .before .before .before .before .put-bytes .ensures) (c .before .before .before .before .before .before .before .put-bytes2 .ensures) (c .before .before .before .head-of .ensures) (c .before .before .put-head .ensures)
+returns c =
+    let start = c .before .before .before .before .before .before .before .before .before .before .before .before .before .before .before .before .before .before in
+    let r = start .args .r in
+    encoded _ _ _ _ _ _ _ _ (arrays start .log .held .contents) (arrays start .posts .contents) (start .pre) (c .before .before .before .before .before .before .before .before .before .before .before .before .put-bytes .ensures) (c .before .before .before .before .before .before .before .put-bytes2 .ensures)
+    (ap (λ (h : Head). recordOn h (r .log .held .contents) (r .posts .contents)) (c .before .before .before .head-of .ensures)) (c .before .before .put-head .ensures)
 
 pub encode-spec : {M : Type 1} → statement M
 encode-spec = tie.close (tie.spec slice-aggregate-put-bytes put-bytes-requires slice-aggregate-put-bytes-2 put-bytes-requires-2 (λ c κs. search needs) put-head-requires (λ c. search needs) returns)

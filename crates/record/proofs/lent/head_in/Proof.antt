@@ -1,14 +1,15 @@
-use mathlib.Core.Path.{sym, _∙_}
+use mathlib.Core.Path.{sym, ap, _∙_}
 use borrow.Author.Needs.{needs}
-use Rattle.record.proofs.LentLaws.{lent-of}
+use Rattle.record.specs.Head.{recordHead}
+use Rattle.record.proofs.LentLaws.{lent-of, lent-none}
 use Rattle.record.proofs.lent.head_in.Statement.{statement}
 use Rattle.record.proofs.lent.head_in.Tie as tie
 
 returns : tie.Need-returns
-returns c = λ long. absurd (c .before .before .before .if1 .taken long)
+returns c = ap recordHead (c .fresh-head .ensures ∙ sym (lent-none _ (c .before .before .before .if1 .taken)))
 
 returns-2 : tie.Need-returns-2
-returns-2 c = λ long. c .get-head .ensures ∙ sym (lent-of _ long)
+returns-2 c = ap recordHead (c .get-head .ensures ∙ sym (lent-of _ (c .before .if1 .left)))
 
 pub head-in-spec : {M : Type 1} → statement M
 head-in-spec =

@@ -1,6 +1,6 @@
 use mathlib.Core.Path.{sym, _∙_}
 use borrow.Author.Needs.{needs}
-use Rattle.record.proofs.LentLaws.{lent-of, other-length, whole-there}
+use Rattle.record.proofs.LentLaws.{lent-of, own-head, other-length, whole-there}
 use Rattle.record.proofs.lent.is_whole_at.Statement.{statement}
 use Rattle.record.proofs.lent.is_whole_at.Tie as tie
 
@@ -11,7 +11,7 @@ returns-2 : tie.Need-returns-2
 returns-2 c =
     let start = c .before .before .before in
     let long = start .if1 .left in
-    whole-there _ _ _ long (start .before .before .pre long ∙ lent-of _ long) (c .is-whole-on .ensures)
+    whole-there _ _ _ long (own-head _ _ long (start .before .before .pre) ∙ lent-of _ long) (c .is-whole-on .ensures)
 
 pub is-whole-at-spec : {M : Type 1} → statement M
 is-whole-at-spec =
