@@ -4,7 +4,8 @@
  * longer than a block drops out. What goes on besides the call itself is measured in blocks of its own
  * and taken off.
  *
- * 'calls' prints the table. 'calls RATIO' also fails if a kind's ratio is above that one.
+ * 'calls CONTENT' prints the table, all contents of that many bytes. 'calls CONTENT RATIO' also fails if a
+ * kind's ratio is above that one.
  */
 #include <stdio.h>
 #include <stdlib.h>
@@ -84,12 +85,13 @@ static void header(void)
 
 int main(int count, char **arguments)
 {
-    double most = count > 1 ? atof(arguments[1]) : 0, largest = 0;
+    double most = count > 2 ? atof(arguments[2]) : 0, largest = 0;
     const char *slowest = "";
     int missed = 0;
 
-    if (count > 2 || (count == 2 && most <= 0)) {
-        fprintf(stderr, "usage: %s [RATIO]\n", arguments[0]);
+    content_size = count > 1 ? (unsigned)atoi(arguments[1]) : 0;
+    if (count < 2 || count > 3 || content_size > TOTEM_MOST_CONTENT || (count == 3 && most <= 0)) {
+        fprintf(stderr, "usage: %s CONTENT [RATIO]\n", arguments[0]);
         return 2;
     }
     header();

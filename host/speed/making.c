@@ -1,16 +1,23 @@
 #include "making.h"
 
+unsigned content_size = CONTENT_ROOM;
+
 struct station filled(unsigned held, unsigned posts)
 {
     static const uint16_t members[] = {3, 7, 9};
     struct station s = fresh_station(7, 4, 3, members);
 
     for (uint32_t n = 1; n <= held; n++)
-        hold(&s, n, members[n % 3], TOTEM_AGREED, some_content(CONTENT_ROOM, n));
+        hold(&s, n, members[n % 3], TOTEM_AGREED, some_content(content_size, n));
     for (unsigned i = 0; i < posts; i++)
-        add_post(&s, TOTEM_AGREED, some_content(CONTENT_ROOM, 100 + i).bytes, CONTENT_ROOM);
+        add_post(&s, TOTEM_AGREED, some_content(content_size, 100 + i).bytes, content_size);
     s.level = s.delivered = held;
     return s;
+}
+
+size_t frame_size(void)
+{
+    return M_CONTENT + content_size;
 }
 
 void wants(struct making *m, unsigned outcome, size_t written, size_t delivered)
@@ -26,7 +33,7 @@ void wants_refusal(struct making *m, unsigned number)
 
 void hand_message(struct making *m, uint32_t number, uint16_t service)
 {
-    struct held message = {number, 3, service, some_content(CONTENT_ROOM, number)};
+    struct held message = {number, 3, service, some_content(content_size, number)};
 
     m->t.call = ARRIVE;
     m->t.size = message_bytes(&m->s, &message, m->t.frame);

@@ -10,8 +10,11 @@ struct making {
     struct trial t;
 };
 
-/* station 7 of 3, 7 and 9: messages 1 to `held` held and delivered, `posts` posts waiting, all of 64 bytes */
+/* station 7 of 3, 7 and 9: messages 1 to `held` held and delivered, `posts` posts waiting */
 struct station filled(unsigned held, unsigned posts);
+
+/* a message's frame */
+size_t frame_size(void);
 
 /* what both must answer */
 void wants(struct making *m, unsigned outcome, size_t written, size_t delivered);

@@ -19,15 +19,15 @@ static void founding(struct making *m)
 static void post(struct making *m)
 {
     m->t.call = POST;
-    memcpy(m->t.frame, some_content(CONTENT_ROOM, 1).bytes, CONTENT_ROOM);
-    m->t.size = CONTENT_ROOM;
+    memcpy(m->t.frame, some_content(content_size, 1).bytes, content_size);
+    m->t.size = content_size;
     wants(m, TOTEM_POSTED, 0, 0);
 }
 
 static void kept_and_delivered(struct making *m)
 {
     hand_message(m, m->s.level + 1, TOTEM_AGREED);
-    wants(m, TOTEM_KEPT, 0, MESSAGE_ROOM);
+    wants(m, TOTEM_KEPT, 0, frame_size());
 }
 
 static void kept(struct making *m)
@@ -43,7 +43,7 @@ static void gap_closed(struct making *m)
         m->s.held[i].number++;
     m->s.level = m->s.delivered = 0;
     hand_message(m, 1, TOTEM_AGREED);
-    wants(m, TOTEM_KEPT, 0, (m->s.held_count + 1u) * MESSAGE_ROOM);
+    wants(m, TOTEM_KEPT, 0, (m->s.held_count + 1u) * frame_size());
 }
 
 static void had(struct making *m)
@@ -67,7 +67,7 @@ static void idle_visit(struct making *m)
 static void visit_with_new(struct making *m)
 {
     hand_token(m, next_token(m, 0));
-    wants(m, TOTEM_ACCEPTED, 8 * MESSAGE_ROOM + TOKEN_LEAST, 8 * MESSAGE_ROOM);
+    wants(m, TOTEM_ACCEPTED, 8 * frame_size() + TOKEN_LEAST, 8 * frame_size());
 }
 
 static void visit_with_repeats(struct making *m)
@@ -77,7 +77,7 @@ static void visit_with_repeats(struct making *m)
     for (t.count = 0; t.count < REQUEST_PLACES; t.count++)
         t.requests[t.count] = t.count + 1;
     hand_token(m, t);
-    wants(m, TOTEM_ACCEPTED, REQUEST_PLACES * MESSAGE_ROOM + TOKEN_LEAST, 0);
+    wants(m, TOTEM_ACCEPTED, REQUEST_PLACES * frame_size() + TOKEN_LEAST, 0);
 }
 
 /* the ring has 16 messages more; this station and 9 lack them */
@@ -120,7 +120,7 @@ static void visit_delivering(struct making *m)
         m->s.held[i].service = TOTEM_SAFE;
     m->s.delivered = 0;
     visit_letting_go(m);
-    m->t.wanted.deliveries = (uint16_t)(m->s.held_count * MESSAGE_ROOM);
+    m->t.wanted.deliveries = (uint16_t)(m->s.held_count * frame_size());
 }
 
 static void resend(struct making *m)

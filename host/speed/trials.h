@@ -18,6 +18,9 @@ struct trial {
 
 extern const char *const fill_names[FILLS];
 
+/* of every content, in bytes: 64 unless it is set */
+extern unsigned content_size;
+
 size_t trial_kinds(void);
 const char *trial_name(size_t kind);
 struct trial trial_of(size_t kind, enum fill fill);

@@ -1,4 +1,5 @@
 pub mod Arrays
+pub mod LimitLaws
 pub mod ListLaws
 pub mod CountLaws
 pub mod RangeFacts
@@ -10,6 +11,7 @@ pub mod FreshLaws
 pub mod HeldSteps
 pub mod HeldLaws
 pub mod TakeLaws
+pub mod PlaceLaws
 pub mod PostLaws
 pub mod PaddedLaws
 pub mod PostsWhole
@@ -24,4 +26,5 @@ pub mod Fits
 pub mod RoundTrip
 pub mod LentLaws
 pub mod PostLent
+pub mod MoveLaws
 pub mod PartLaws

@@ -1,12 +1,12 @@
 -- The oldest posts are taken: what the code's copies leave is what `taken` says.
 use Prim.Native.Nat.{ℕ, _*_, _-_, _≤_}
 use mathlib.Core.Path.{_≡_, _∙_}
-use mathlib.Core.List.{List, [], _++_, append-nil}
+use mathlib.Core.List.{List, _++_, append-nil}
 use native.Mathlib.Nat.{sub-zero}
 use native.Mathlib.Omega.{arith}
-use lib.ListN.{length, take, drop, replicate, drop-of-length-le}
-use lib.Seq.{sets}
-use Rattle.words.proofs.StoreLaws.{front-stored}
+use lib.ListN.{length, take, drop, replicate, length-drop}
+use lib.Seq.{take-at, length-take-le}
+use Rattle.frames.proofs.TokenLaws.{drop-replicate}
 use Rattle.frames.specs.Layout.{mostContent}
 use Rattle.record.specs.Size.{mostPosts, postContents}
 use Rattle.record.specs.Posts.{taken}
@@ -14,11 +14,19 @@ use Rattle.record.specs.declared.posts.Posts.{Posts}
 use Rattle.record.proofs.Arrays.{PostsArrays}
 use Rattle.record.proofs.ListLaws.{moved-up}
 
--- a run as long as the list, stored at its front, is all of it
-pub whole-stored : (l xs ys : List ℕ) → length xs ≡ length l → ys ≡ sets l 0 xs → ys ≡ xs
-whole-stored l xs ys long e =
-    let none : drop (length l) l ≡ [] = drop-of-length-le l {i = length l} (omega arith) in
-    e ∙ front-stored (length l) xs l long (omega arith) ∙ rw (none, append-nil)
+-- contents moved up, then cleared behind
+pub contents-taken : (w m c : List ℕ) (n : ℕ)
+    → length w ≡ postContents
+    → n ≤ mostPosts
+    → m ≡ take (mostContent * (mostPosts - n)) (drop (mostContent * n) w) ++ drop (mostContent * (mostPosts - n)) w
+    → c ≡ take (mostContent * (mostPosts - n)) m ++ replicate (mostContent * (mostPosts - (mostPosts - n))) 0
+    → c ≡ take (mostContent * (mostPosts - n)) (drop (mostContent * n) w) ++ drop (mostContent * (mostPosts - n)) (replicate postContents 0)
+contents-taken w m c n size h e f =
+    let long = mostContent * (mostPosts - n) in
+    let moved = take long (drop (mostContent * n) w) in
+    let front : length moved ≡ long = length-take-le long (drop (mostContent * n) w) (rw length-drop (omega (arith, size))) in
+    let zeros : mostContent * (mostPosts - (mostPosts - n)) ≡ postContents - long = omega arith in
+    f ∙ rw (e, take-at moved (drop long w) long front, zeros, drop-replicate {A = ℕ} postContents long 0)
 
 -- none is taken
 pub none-taken : (p : Posts) (n : ℕ) → n ≡ 0 → p ≡ taken p n

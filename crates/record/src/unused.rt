@@ -1,10 +1,13 @@
 // The last clause of whole: a part not in use is zero.
 ghost use mathlib.Core.Path.{_≡_};
 ghost use Prim.Native.Nat.{_*_};
-ghost use lib.ListN.{length, drop};
+ghost use lib.ListN.{length, getD, drop};
+ghost use lib.Dec.{leb};
 ghost use Rattle.words.specs.Scan.{allZero};
 ghost use Rattle.frames.specs.Layout.{mostContent};
 ghost use Rattle.record.specs.Size.{heldContents, postContents};
+ghost use Rattle.record.specs.Count.{everyFrom};
+ghost use Rattle.record.specs.Contents.{allLimits};
 ghost use Rattle.record.specs.Head.{heldOn, logOn, postsOn, recordOn};
 ghost use Rattle.record.specs.Whole.{contentsPadded, freePlacesZero, logUnusedZero, postsUnusedZero, unusedZero};
 use crate::head::Head;
@@ -23,7 +26,7 @@ fn zero_from_u16(s: &[u16], n: u8) -> bool
     words::all_zero_u16(&s[first..])
 }
 
-// Of bytes. Most contents are empty: then the whole slice is looked at, whose length the compiler knows.
+// Of bytes. Often n is 0: then the whole slice is looked at, whose length the compiler knows.
 fn zero_from_u8(s: &[u8], n: u8) -> bool
     ensures { λ r. ⌜ r ≡ allZero (drop n (now (s .entry))) ⌝ }
 {
@@ -37,16 +40,58 @@ fn zero_from_u8(s: &[u8], n: u8) -> bool
     words::all_zero_u8(&s[first..])
 }
 
+// Every byte of a content is at most its limit. With no way out of the loop, so that the compiler can test many
+// at once.
+fn within_limits(s: &[u8], limits: &[u8]) -> bool
+    requires { ⌜ (length (now s) ≡ mostContent) × (length (now limits) ≡ mostContent) ⌝ }
+    ensures { λ r. ⌜ r ≡ everyFrom
+        (λ i. leb (getD (now (s .entry)) i 0) (getD (now (limits .entry)) i 0)) 0 mostContent ⌝ }
+{
+    let mut good = true;
+    let mut i = 0;
+    while i < frames::MOST_CONTENT {
+        good = good & (s[i] <= limits[i]);
+        i += 1;
+    }
+    good
+}
+
+const LIMITS: usize = 2 * frames::MOST_CONTENT;
+
+// The bytes of a content past its length. A part of 64 limits, 255 for each byte of the content and 0 for each
+// past it, stands in 64 times 255 and 64 times 0, so no content is looked at byte by byte. Ruled out: the last
+// byte not looked at; a byte of the content asked to be zero.
+fn content_padded(s: &[u8], n: u8, limits: &[u8]) -> bool
+    requires { ⌜ (length (now s) ≡ mostContent) × (now limits ≡ allLimits) ⌝ }
+    ensures { λ r. ⌜ r ≡ allZero (drop n (now (s .entry))) ⌝ }
+{
+    if n == 0 {
+        return words::all_zero_u8(s);
+    }
+    let first = n as usize;
+    if frames::MOST_CONTENT <= first {
+        return true;
+    }
+    let from = frames::MOST_CONTENT - first;
+    within_limits(s, &limits[from..from + frames::MOST_CONTENT])
+}
+
 // The bytes past each content's length. Ruled out: the last content not looked at; a content's own
 // bytes asked to be zero.
 fn contents_padded(lengths: &[u8], contents: &[u8]) -> bool
     requires { ⌜ length (now contents) ≡ mostContent * length (now lengths) ⌝ }
     ensures { λ r. ⌜ r ≡ contentsPadded (now (lengths .entry)) (now (contents .entry)) ⌝ }
 {
+    let mut limits = [0u8; LIMITS];
+    words::put_bytes(&mut limits, 0, &[255u8; frames::MOST_CONTENT]);
     let mut i = 0;
     while i < lengths.len() {
         let at = frames::MOST_CONTENT * i;
-        let good = zero_from_u8(&contents[at..at + frames::MOST_CONTENT], lengths[i]);
+        let good = content_padded(
+            &contents[at..at + frames::MOST_CONTENT],
+            lengths[i],
+            &limits,
+        );
         if !good {
             return false;
         }

@@ -1,18 +1,19 @@
 // Delivery: which messages are due, and their frames.
 ghost use mathlib.Core.Path.{_≡_};
-ghost use mathlib.Core.Bool.{true};
+ghost use mathlib.Core.Bool.{true, _||_};
 ghost use mathlib.Core.List.{List, map};
 ghost use Prim.Native.Nat.{ℕ, _+_, _*_, _≤_, _<_};
-ghost use lib.ListN.{length};
+ghost use lib.ListN.{length, getD};
+ghost use lib.Dec.{leb, eqb};
 ghost use lib.Seq.{sets};
 ghost use Rattle.frames.specs.Number.{mostNumber};
 ghost use Rattle.frames.specs.Layout.{longestMessage};
 ghost use Rattle.frames.specs.Header.{headerFollows};
 ghost use Rattle.record.specs.Head.{logOn};
-ghost use Rattle.record.specs.Held.{holds};
+ghost use Rattle.record.specs.Held.{placeOf, holds};
 ghost use Rattle.record.proofs.WholeFacts.{LogGood};
 ghost use Rattle.station.specs.Reply.{followedBy, mostDeliveries};
-ghost use Rattle.station.specs.Deliver.{ringHeader, frameOf, joined, isDue, due, handedOut};
+ghost use Rattle.station.specs.Deliver.{ringHeader, frameOf, joined, due, handedOut};
 ghost use Rattle.station.specs.Visit.{numbersAfter};
 ghost use Rattle.station.specs.Steps.{JustKept};
 use crate::held_frames;
@@ -20,12 +21,12 @@ use frames::Message;
 use frames::MessageNumber;
 use record::LogHead;
 
-// Agreed, or at most the safe mark?
-fn is_due(l: LogHead, safe: MessageNumber, n: MessageNumber) -> bool
-    ensures { λ r. ⌜ ((contents : List ℕ) → r ≡ isDue (logOn l contents) (safe .0) (n .0)) ⌝ }
+// Agreed, by the services of all places, or at most the safe mark? They are lent, so that a loop copies none.
+fn is_due(services: &[u16; record::MOST_HELD], safe: MessageNumber, n: MessageNumber) -> bool
+    ensures { λ r. ⌜ r ≡ (eqb (getD (now (services .entry)) (placeOf (n .0)) 0) 0 || leb (n .0) (safe .0)) ⌝ }
 {
     let place = n.0 as usize % record::MOST_HELD;
-    (l.services[place] == 0) | (n.0 <= safe.0)
+    (services[place] == 0) | (n.0 <= safe.0)
 }
 
 // How many messages are due.
@@ -33,10 +34,11 @@ fn due_count(l: LogHead, safe: MessageNumber) -> u32
     requires { ⌜ l .level .0 ≤ mostNumber ⌝ }
     ensures { λ r. ⌜ ((contents : List ℕ) → r ≡ length (due (logOn l contents) (safe .0))) ⌝ }
 {
+    let services = l.services;
     let level = l.level.0;
     let mut last = l.delivered.0;
     while last < level {
-        if !is_due(l, safe, MessageNumber(last + 1)) {
+        if !is_due(&services, safe, MessageNumber(last + 1)) {
             return last - l.delivered.0;
         }
         last += 1;

@@ -1,9 +1,8 @@
 use native.Mathlib.Omega.{arith}
-use mathlib.Core.Path.{_∙_}
 use borrow.Author.Needs.{needs}
 use Rattle.record.specs.Head.{postsOn}
 use Rattle.record.proofs.Arrays.{PostsArrays}
-use Rattle.record.proofs.TakeLaws.{none-taken, posts-taken, whole-stored}
+use Rattle.record.proofs.TakeLaws.{none-taken, contents-taken, posts-taken}
 use Rattle.record.proofs.posts.take_oldest.Statement.{statement}
 use Rattle.record.proofs.posts.take_oldest.Tie as tie
 
@@ -16,23 +15,18 @@ copy-u16s-requires c κs = omega (arith, sizes (c .before .before .before .befor
 get-bytes-requires : tie.Need-get-bytes-requires
 get-bytes-requires c κs = omega (arith, sizes (c .before .before .before .before .before .before .before .before .before .before) .lengths, c .before .before .before .before .before .before .before .before .before .before .pre)
 
-get-bytes-requires-2 : tie.Need-get-bytes-requires-2
-get-bytes-requires-2 c κs = omega (arith, c .before .before .before .before .before .before .before .before .before .before .before .before .before .before .pre)
-
-put-bytes-requires : tie.Need-put-bytes-requires
-put-bytes-requires c κs = search needs
-
 returns : tie.Need-returns
 returns c = none-taken _ _ (c .if1 .taken)
 
 returns-2 : tie.Need-returns-2
 returns-2 c =
-    let start = c .before .before .before .before .before .before .before .before .before .before .before .before .before .before .before .before .before .before .before .before .before .before in
-    posts-taken (postsOn (start .args .p) (start .args .waiting .now)) (start .args .n) _ _ _ (sizes start) (omega (arith, start .pre))
-    (c .before .before .before .before .before .before .before .before .before .before .before .before .before .before .before .copy-u16s .ensures) (c .before .before .before .before .before .before .before .before .before .before .before .get-bytes .ensures)
-    (whole-stored _ _ _ (search needs) (c .before .before .before .put-bytes .ensures) ∙ c .before .before .before .before .before .before .before .get-bytes2 .ensures)
+    let start = c .before .before .before .before .before .before .before .before .before .before .before .before .before .before .before .before .before .before .before .before .before in
+    let few = start .pre in
+    posts-taken (postsOn (start .args .p) (start .args .waiting .now)) (start .args .n) _ _ _ (sizes start) (omega (arith, few))
+    (c .before .before .before .before .before .before .before .before .before .before .before .before .before .before .copy-u16s .ensures) (c .before .before .before .before .before .before .before .before .before .before .get-bytes .ensures)
+    (contents-taken _ _ _ (start .args .n) (few .2) (omega (arith, few)) (c .before .before .before .before .before .before .before .move-up .ensures) (c .before .before .before .clear-from .ensures))
 
 pub take-oldest-spec : {M : Type 1} → statement M
 take-oldest-spec =
     tie.close
-    (tie.spec returns (λ c. search needs) (λ c. search needs) (λ c. search needs) copy-u16s-requires (λ c. search needs) (λ c. search needs) get-bytes-requires (λ c. search needs) (λ c. search needs) (λ c. search needs) get-bytes-requires-2 (λ c. search needs) put-bytes-requires (λ c. search needs) (λ c. search needs) returns-2)
+    (tie.spec returns (λ c. search needs) (λ c. search needs) (λ c. search needs) copy-u16s-requires (λ c. search needs) (λ c. search needs) get-bytes-requires (λ c κs. search needs) (λ c κs. search needs) (λ c. search needs) (λ c. search needs) returns-2)

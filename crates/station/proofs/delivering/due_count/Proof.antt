@@ -9,22 +9,22 @@ use Rattle.station.proofs.delivering.due_count.Statement.{statement}
 use Rattle.station.proofs.delivering.due_count.Tie as tie
 
 abbrev Inv-loop : tie.InvT-loop
-Inv-loop l safe level last₀ last = (contents : List ℕ) → Counted (logOn l contents) (safe .0) last
+Inv-loop l safe services level last₀ last = (contents : List ℕ) → Counted (logOn l contents) (safe .0) last
 
 abbrev μ-loop : tie.MeasureT-loop
-μ-loop l safe level last₀ last = level - last
+μ-loop l safe services level last₀ last = level - last
 
 loop-holds : tie.Need-loop-holds Inv-loop μ-loop
 loop-holds c = λ contents. count-starts _ _
 
 sub-result : tie.Need-sub-result Inv-loop μ-loop
-sub-result c = let low = c .before .before .before .before .loop .inv [] .low in search needs
+sub-result c = let low = c .before .before .before .before .before .loop .inv [] .low in search needs
 
 returns : tie.Need-returns Inv-loop μ-loop
-returns c = λ contents. count-stops _ _ _ (c .before .before .before .before .loop .inv contents) (sym (c .before .before .is-due .ensures contents) ∙ not-true _ (c .before .if1 .taken))
+returns c = λ contents. count-stops _ _ _ (c .before .before .before .before .before .loop .inv contents) (sym (c .before .before .is-due .ensures) ∙ not-true _ (c .before .if1 .taken))
 
 loop-again : tie.Need-loop-again Inv-loop μ-loop
-loop-again c = λ contents. count-goes _ _ _ (c .before .before .before .loop .inv contents) (c .before .before .loop-test .taken) (sym (c .before .is-due .ensures contents) ∙ not-false _ (c .if1 .left))
+loop-again c = λ contents. count-goes _ _ _ (c .before .before .before .before .loop .inv contents) (c .before .before .before .loop-test .taken) (sym (c .before .is-due .ensures) ∙ not-false _ (c .if1 .left))
 
 sub-result-2 : tie.Need-sub-result-2 Inv-loop μ-loop
 sub-result-2 c = let low = c .before .before .loop .inv [] .low in search needs
