@@ -41,7 +41,7 @@ pub fn put_message(m: Message, content: &[u8], out: &mut [u8])
     ensures { λ _. ⌜ now (out .exit) ≡ (messageWritten m (now (content .entry)) (now (out .entry))) .out ⌝ }
 {
     put_message_fixed(out, m, layout::CONTENT_AT + content.len());
-    words::put_bytes(out, layout::CONTENT_AT, content);
+    words::put_many(out, layout::CONTENT_AT, content);
 }
 
 // Writes a message frame to the front of `out`. Ruled out: a malformed one written; a buffer one byte short

@@ -10,6 +10,7 @@ pub use run::get_bytes;
 pub use run::get_u16s;
 pub use run::get_u32s;
 pub use run::put_bytes;
+pub use run::put_many;
 pub use run::put_u16s;
 pub use run::put_u32s;
 pub use scan::all_within_u8;

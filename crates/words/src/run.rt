@@ -2,7 +2,7 @@
 // word too few; a place past the run changed.
 ghost use mathlib.Core.Path.{_≡_};
 ghost use mathlib.Core.List.{_++_};
-ghost use Prim.Native.Nat.{_+_, _*_, _≤_};
+ghost use Prim.Native.Nat.{_+_, _*_, _≤_, _<_};
 ghost use lib.ListN.{length, take, drop};
 ghost use lib.Seq.{sets};
 ghost use Rattle.words.specs.Run.{words, wordsBytes};
@@ -71,6 +71,58 @@ pub fn put_bytes(out: &mut [u8], at: usize, xs: &[u8])
         out[at + i] = xs[i];
         i += 1;
     }
+}
+
+// The first 16 bytes of xs, by way of an array: the compiler knows that it overlaps nothing.
+fn put_16(out: &mut [u8], at: usize, xs: &[u8])
+    requires { ⌜ (16 ≤ length (now xs)) × (at + 16 ≤ length (now out)) ⌝ }
+    ensures { λ _. ⌜ now (out .exit) ≡ sets (now (out .entry)) at (take 16 (now (xs .entry))) ⌝ }
+{
+    let mut piece = [0u8; 16];
+    get_bytes(xs, 0, 16, &mut piece);
+    put_bytes(out, at, &piece);
+}
+
+fn put_8(out: &mut [u8], at: usize, xs: &[u8])
+    requires { ⌜ (8 ≤ length (now xs)) × (at + 8 ≤ length (now out)) ⌝ }
+    ensures { λ _. ⌜ now (out .exit) ≡ sets (now (out .entry)) at (take 8 (now (xs .entry))) ⌝ }
+{
+    let mut piece = [0u8; 8];
+    get_bytes(xs, 0, 8, &mut piece);
+    put_bytes(out, at, &piece);
+}
+
+// Fewer than 16 bytes: the first 8 and the last 8, which may overlap, or one by one.
+fn put_few(out: &mut [u8], at: usize, xs: &[u8])
+    requires { ⌜ (length (now xs) < 16) × (at + length (now xs) ≤ length (now out)) ⌝ }
+    ensures { λ _. ⌜ now (out .exit) ≡ sets (now (out .entry)) at (now (xs .entry)) ⌝ }
+{
+    let n = xs.len();
+    if n < 8 {
+        put_bytes(out, at, xs);
+        return;
+    }
+    put_8(out, at, xs);
+    put_8(out, at + (n - 8), &xs[n - 8..]);
+}
+
+// The same as put_bytes, for a number of bytes that the compiler does not know: 16 at a time, and the last 16
+// again from wherever they begin.
+pub fn put_many(out: &mut [u8], at: usize, xs: &[u8])
+    requires { ⌜ at + length (now xs) ≤ length (now out) ⌝ }
+    ensures { λ _. ⌜ now (out .exit) ≡ sets (now (out .entry)) at (now (xs .entry)) ⌝ }
+{
+    let n = xs.len();
+    if n < 16 {
+        put_few(out, at, xs);
+        return;
+    }
+    let mut i = 0;
+    while i + 16 <= n {
+        put_16(out, at + i, &xs[i..]);
+        i += 16;
+    }
+    put_16(out, at + (n - 16), &xs[n - 16..]);
 }
 
 pub fn put_u16s(out: &mut [u8], at: usize, xs: &[u16])

@@ -1,0 +1,12 @@
+use borrow.Author.Needs.{needs}
+use Rattle.words.proofs.StoreLaws.{piece-put}
+use Rattle.words.proofs.run.put_8.Statement.{statement}
+use Rattle.words.proofs.run.put_8.Tie as tie
+
+returns : tie.Need-returns
+returns c =
+    let start = c .before .before .before .before .before .before .before .before .before .before in
+    piece-put (start .args .out .now) _ _ (start .args .xs .now) (start .args .at) 8 (c .before .before .before .before .before .before .get-bytes .ensures) (c .before .before .put-bytes .ensures)
+
+pub put-8-spec : {M : Type 1} → statement M
+put-8-spec = tie.close (tie.spec (λ c. search needs) (λ c κs. search needs) (λ c. search needs) (λ c κs. search needs) (λ c. search needs) returns)
