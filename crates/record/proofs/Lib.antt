@@ -1,5 +1,5 @@
 pub mod Arrays
-pub mod LimitLaws
+pub mod PieceLaws
 pub mod ListLaws
 pub mod CountLaws
 pub mod RangeFacts

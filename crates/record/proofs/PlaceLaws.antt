@@ -21,9 +21,9 @@ both-ways true b there back = sym (there refl)
 both-ways false true there back = back refl
 both-ways false false there back = refl
 
--- how many numbers above the safe mark come before the one in place i; the place of the safe mark is `last`
+-- how many numbers above the safe mark come before the one in place i
 abbrev pub beforeIn : ℕ → ℕ → ℕ
-beforeIn last i = (i + mostHeld - 1 - last) % mostHeld
+beforeIn safe i = (i + mostHeld - 1 - safe % mostHeld) % mostHeld
 
 -- a question of every number above the safe mark that may be held, asked of the places
 pub by-place : (safe : ℕ) (asked question : ℕ → Bool)
@@ -36,11 +36,11 @@ by-place safe asked question same = both-ways _ _ there back
 
     back : everyFrom question (suc safe) mostHeld ≡ true → everyFrom asked 0 mostHeld ≡ true
     back all = all-pass asked 0 mostHeld (λ i i<.
-        let j = beforeIn (safe % mostHeld) i in
+        let j = beforeIn safe i in
         let home : placeOf (suc safe + j) ≡ i = omega arith in
         rw zero-add (rw home at (same j (omega arith) ∙ each-passes question (suc safe) mostHeld all j (omega arith))))
 
-pub before-place : (safe j : ℕ) → j < mostHeld → beforeIn (safe % mostHeld) (placeOf (suc safe + j)) ≡ j
+pub before-place : (safe j : ℕ) → j < mostHeld → beforeIn safe (placeOf (suc safe + j)) ≡ j
 before-place safe j h = omega arith
 
 -- such a number is held where its place is in use
@@ -52,7 +52,7 @@ held-in-place l j h = rw (lt-ltb (l .safe .0) (suc (l .safe .0) + j) (omega arit
 
 -- the question of a place, as the code asks
 abbrev pub placeFilled : List ℕ → ℕ → ℕ → ℕ → Bool
-placeFilled senders many last i = leb many (beforeIn last i) || not (eqb (getD senders i 0) 0)
+placeFilled senders many safe i = leb many (beforeIn safe i) || not (eqb (getD senders i 0) 0)
 
 module _ (l : Log) where
   abbrev many : ℕ
@@ -71,7 +71,7 @@ module _ (l : Log) where
         | no h ↦ rw (le-leb many j (omega arith), lt-ltb (l .level .0) (number j) (omega arith))
       ]
 
-  same : (j : ℕ) → j < mostHeld → placeFilled (l .held .senders) many (l .safe .0 % mostHeld) (placeOf (number j)) ≡ question (number j)
+  same : (j : ℕ) → j < mostHeld → placeFilled (l .held .senders) many (l .safe .0) (placeOf (number j)) ≡ question (number j)
   same j h = rw (before-place (l .safe .0) j h, past j, held-in-place l j h)
 
   pub level-too-high : mostHeld < l .level .0 - l .safe .0 → false ≡ heldToLevel l
@@ -83,7 +83,7 @@ module _ (l : Log) where
 
   pub level-by-place : (good : Bool)
       → l .level .0 - l .safe .0 ≤ mostHeld
-      → good ≡ everyFrom (placeFilled (l .held .senders) (l .level .0 - l .safe .0) (l .safe .0 % mostHeld)) 0 mostHeld
+      → good ≡ everyFrom (placeFilled (l .held .senders) (l .level .0 - l .safe .0) (l .safe .0)) 0 mostHeld
       → good ≡ heldToLevel l
   unfolding heldToLevel
   level-by-place good few e = e ∙ by-place (l .safe .0) _ question same ∙ both-ways _ _ there back

@@ -1,8 +1,8 @@
 -- Contents that stand one after another in one run of bytes, 64 apart, each with its length beside it: of held messages and of waiting
 -- posts. [document 01, The station record]
 use Prim.Native.Nat.{ℕ, _+_, _*_, _-_}
-use mathlib.Core.List.{List, _++_}
-use lib.ListN.{getD, take, drop, replicate}
+use mathlib.Core.List.{List}
+use lib.ListN.{getD, take, drop}
 use Rattle.frames.specs.Layout.{mostContent}
 
 -- the content at a place
@@ -12,7 +12,3 @@ contentIn lengths contents place = take (getD lengths place 0) (drop (mostConten
 -- the bytes past its length
 abbrev pub padding : List ℕ → List ℕ → ℕ → List ℕ
 padding lengths contents place = take (mostContent - getD lengths place 0) (drop (mostContent * place + getD lengths place 0) contents)
-
--- limits for 64 bytes, of which the first n may be any and the others are zero, stand in this from place 64 - n on
-abbrev pub allLimits : List ℕ
-allLimits = replicate mostContent 255 ++ replicate mostContent 0

@@ -2,7 +2,7 @@
 // A message's place follows from its number alone.
 ghost use mathlib.Core.Path.{_≡_};
 ghost use mathlib.Core.Bool.{not, _&&_};
-ghost use Prim.Native.Nat.{_+_, _*_, _≤_};
+ghost use Prim.Native.Nat.{_+_, _*_, _-_, _%_, _≤_, _<_};
 ghost use lib.ListN.{length, getD};
 ghost use lib.Dec.{ltb, leb, eqb};
 ghost use lib.Seq.{sets};
@@ -26,6 +26,16 @@ pub fn is_held(safe: MessageNumber, senders: &[u16; size::MOST_HELD], n: Message
 {
     let place = n.0 as usize % size::MOST_HELD;
     (safe.0 < n.0) & (n.0 <= safe.0 + size::MOST_HELD as u32) & (senders[place] != 0)
+}
+
+// How many numbers above the safe mark come before the one that a place is for. Ruled out: the safe mark's own
+// place first; a place counted from another mark.
+pub fn numbers_before(safe: MessageNumber, place: usize) -> u32
+    requires { ⌜ place < mostHeld ⌝ }
+    ensures { λ r. ⌜ r ≡ (place + mostHeld - 1 - safe .0 % mostHeld) % mostHeld ⌝ }
+{
+    let most = size::MOST_HELD as u32;
+    (place as u32 + most - 1 - safe.0 % most) % most
 }
 
 // A content at its place among those held.

@@ -33,6 +33,7 @@ pub use head::PostsHead;
 pub use head::head_with;
 pub use head::marked;
 pub use held::is_held;
+pub use held::numbers_before;
 pub use layout::RECORD_SIZE;
 pub use lent::contents_in;
 pub use lent::head_in;

@@ -1,13 +1,13 @@
 // The last clause of whole: a part not in use is zero.
 ghost use mathlib.Core.Path.{_≡_};
-ghost use Prim.Native.Nat.{_*_};
-ghost use lib.ListN.{length, getD, drop};
+ghost use mathlib.Core.List.{_++_};
+ghost use Prim.Native.Nat.{_*_, _≤_, min};
+ghost use lib.ListN.{length, getD, drop, replicate};
 ghost use lib.Dec.{leb};
 ghost use Rattle.words.specs.Scan.{allZero};
 ghost use Rattle.frames.specs.Layout.{mostContent};
 ghost use Rattle.record.specs.Size.{heldContents, postContents};
 ghost use Rattle.record.specs.Count.{everyFrom};
-ghost use Rattle.record.specs.Contents.{allLimits};
 ghost use Rattle.record.specs.Head.{heldOn, logOn, postsOn, recordOn};
 ghost use Rattle.record.specs.Whole.{contentsPadded, freePlacesZero, logUnusedZero, postsUnusedZero, unusedZero};
 use crate::head::Head;
@@ -40,40 +40,80 @@ fn zero_from_u8(s: &[u8], n: u8) -> bool
     words::all_zero_u8(&s[first..])
 }
 
-// Every byte of a content is at most its limit. With no way out of the loop, so that the compiler can test many
-// at once.
+// A content is looked at in pieces of 16 bytes, so that the compiler can test each at once. The last begins here.
+const PIECE: usize = 16;
+
+const LAST_PIECE: usize = frames::MOST_CONTENT - PIECE;
+
+// Where a piece begins that would begin at a place, but ends with the content at the latest.
+fn piece_at(place: usize) -> usize
+    ensures { λ r. ⌜ r ≡ min place 48 ⌝ }
+{
+    if place <= LAST_PIECE {
+        place
+    } else {
+        LAST_PIECE
+    }
+}
+
+// The bytes of a content from a place on: four pieces, which overlap where there are less than 64 bytes. Ruled
+// out: a byte between two pieces; the byte before the place asked to be zero.
+fn pieces_zero(s: &[u8], first: usize) -> bool
+    requires { ⌜ (length (now s) ≡ mostContent) × (first ≤ 48) ⌝ }
+    ensures { λ r. ⌜ r ≡ allZero (drop first (now (s .entry))) ⌝ }
+{
+    let second = piece_at(first + PIECE);
+    let third = piece_at(first + 2 * PIECE);
+    let mut good = true;
+    let mut i = 0;
+    while i < PIECE {
+        good = good
+            & ((s[first + i] == 0)
+                & (s[second + i] == 0)
+                & (s[third + i] == 0)
+                & (s[LAST_PIECE + i] == 0));
+        i += 1;
+    }
+    good
+}
+
+// Every byte of a piece is at most its limit.
 fn within_limits(s: &[u8], limits: &[u8]) -> bool
-    requires { ⌜ (length (now s) ≡ mostContent) × (length (now limits) ≡ mostContent) ⌝ }
+    requires { ⌜ (length (now s) ≡ 16) × (length (now limits) ≡ 16) ⌝ }
     ensures { λ r. ⌜ r ≡ everyFrom
-        (λ i. leb (getD (now (s .entry)) i 0) (getD (now (limits .entry)) i 0)) 0 mostContent ⌝ }
+        (λ i. leb (getD (now (s .entry)) i 0) (getD (now (limits .entry)) i 0)) 0 16 ⌝ }
 {
     let mut good = true;
     let mut i = 0;
-    while i < frames::MOST_CONTENT {
+    while i < PIECE {
         good = good & (s[i] <= limits[i]);
         i += 1;
     }
     good
 }
 
-const LIMITS: usize = 2 * frames::MOST_CONTENT;
+const LIMITS: usize = 2 * PIECE;
 
-// The bytes of a content past its length. A part of 64 limits, 255 for each byte of the content and 0 for each
-// past it, stands in 64 times 255 and 64 times 0, so no content is looked at byte by byte. Ruled out: the last
-// byte not looked at; a byte of the content asked to be zero.
+// The bytes of a content past its length. Where less than a piece is past it, the last piece has limits: 255 for
+// each byte of the content and 0 for each past it; they are 16 neighbours in 16 times 255 and 16 times 0. Ruled
+// out: the last byte not looked at; a byte of the content asked to be zero.
 fn content_padded(s: &[u8], n: u8, limits: &[u8]) -> bool
-    requires { ⌜ (length (now s) ≡ mostContent) × (now limits ≡ allLimits) ⌝ }
+    requires { ⌜
+        (length (now s) ≡ mostContent) × (now limits ≡ replicate 16 255 ++ replicate 16 0) ⌝ }
     ensures { λ r. ⌜ r ≡ allZero (drop n (now (s .entry))) ⌝ }
 {
     if n == 0 {
         return words::all_zero_u8(s);
     }
     let first = n as usize;
+    if first <= LAST_PIECE {
+        return pieces_zero(s, first);
+    }
     if frames::MOST_CONTENT <= first {
         return true;
     }
     let from = frames::MOST_CONTENT - first;
-    within_limits(s, &limits[from..from + frames::MOST_CONTENT])
+    within_limits(&s[LAST_PIECE..], &limits[from..from + PIECE])
 }
 
 // The bytes past each content's length. Ruled out: the last content not looked at; a content's own
@@ -83,7 +123,7 @@ fn contents_padded(lengths: &[u8], contents: &[u8]) -> bool
     ensures { λ r. ⌜ r ≡ contentsPadded (now (lengths .entry)) (now (contents .entry)) ⌝ }
 {
     let mut limits = [0u8; LIMITS];
-    words::put_bytes(&mut limits, 0, &[255u8; frames::MOST_CONTENT]);
+    words::put_bytes(&mut limits, 0, &[255u8; PIECE]);
     let mut i = 0;
     while i < lengths.len() {
         let at = frames::MOST_CONTENT * i;

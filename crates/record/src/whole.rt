@@ -1,7 +1,7 @@
 // Is a record whole?
 ghost use mathlib.Core.Path.{_≡_};
 ghost use mathlib.Core.Bool.{_&&_, _||_};
-ghost use Prim.Native.Nat.{_-_, _≤_};
+ghost use Prim.Native.Nat.{_≤_};
 ghost use lib.Dec.{eqb};
 ghost use lib.ListN.{length};
 ghost use Rattle.frames.specs.Number.{mostNumber};
@@ -72,29 +72,19 @@ fn arus_reached(t: Turn, level: MessageNumber) -> bool
     (t.aru.0 <= level.0) & (t.earlier.0 <= level.0)
 }
 
-// How many numbers there are above one up to another.
-fn numbers_above(high: MessageNumber, low: MessageNumber) -> u32
-    ensures { λ r. ⌜ r ≡ high .0 - low .0 ⌝ }
-{
-    if high.0 <= low.0 { 0 } else { high.0 - low.0 }
-}
-
-// Place by place, with no way out of the loop, so that the compiler can test many at once: in place i is the
-// number that follows `before` others above the safe mark.
+// Place by place, with no way out of the loop, so that the compiler can test many at once.
 fn held_to_level(l: LogHead, contents: &[u8]) -> bool
     ensures { λ r. ⌜ r ≡ heldToLevel (logOn l (now (contents .entry))) ⌝ }
 {
-    let most = size::MOST_HELD as u32;
     let senders = l.senders;
-    let many = numbers_above(l.level, l.safe);
-    if most < many {
+    let many = words::less(l.level.0, l.safe.0);
+    if (size::MOST_HELD as u32) < many {
         return false;
     }
-    let last = l.safe.0 % most;
     let mut good = true;
     let mut i = 0;
     while i < size::MOST_HELD {
-        let before = (i as u32 + most - 1 - last) % most;
+        let before = held::numbers_before(l.safe, i);
         good = good & ((many <= before) | (senders[i] != 0));
         i += 1;
     }

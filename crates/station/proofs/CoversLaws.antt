@@ -1,5 +1,5 @@
 -- 18, place by place.
-use Prim.Native.Nat.{ℕ, suc, _+_, _-_, _%_, _<_, _≤_}
+use Prim.Native.Nat.{ℕ, suc, _+_, _-_, _<_, _≤_}
 use mathlib.Core.Path.{_≡_, refl, _∙_}
 use mathlib.Core.Bool.{Bool, true, false, not, _||_}
 use mathlib.Core.List.{List}
@@ -17,7 +17,7 @@ use Rattle.station.specs.Arrive.{coversHeld}
 
 -- the question of a place, as the code asks
 abbrev pub placeCovered : List ℕ → ℕ → ℕ → ℕ → Bool
-placeCovered senders covered last i = ltb (beforeIn last i) covered || eqb (getD senders i 0) 0
+placeCovered senders covered safe i = ltb (beforeIn safe i) covered || eqb (getD senders i 0) 0
 
 not-not : (b : Bool) → not (not b) ≡ b
 not-not true = refl
@@ -39,12 +39,12 @@ module _ (l : Log) (highest : ℕ) where
       ]
 
   -- the number's question is its place's
-  same : (j : ℕ) → j < mostHeld → placeCovered (l .held .senders) (highest - l .safe .0) (l .safe .0 % mostHeld) (placeOf (number j)) ≡ (leb (number j) highest || not (holds l (number j)))
+  same : (j : ℕ) → j < mostHeld → placeCovered (l .held .senders) (highest - l .safe .0) (l .safe .0) (placeOf (number j)) ≡ (leb (number j) highest || not (holds l (number j)))
   same j h = rw (before-place (l .safe .0) j h, reached j, held-in-place l j h, not-not)
 
   pub covers-by-place : (good : Bool)
       → l .level .0 ≤ highest
-      → good ≡ everyFrom (placeCovered (l .held .senders) (highest - l .safe .0) (l .safe .0 % mostHeld)) 0 mostHeld
+      → good ≡ everyFrom (placeCovered (l .held .senders) (highest - l .safe .0) (l .safe .0)) 0 mostHeld
       → good ≡ coversHeld l highest
   unfolding coversHeld
   covers-by-place good h e = e ∙ rw (le-leb (l .level .0) highest h) (by-place (l .safe .0) _ (λ n. leb n highest || not (holds l n)) same)

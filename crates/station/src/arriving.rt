@@ -15,7 +15,6 @@ ghost use Rattle.station.specs.Arrive.{readerRefusal, coversHeld, messag
 use crate::answer;
 use crate::answer::Answer;
 use crate::done::Done;
-use crate::flow;
 use crate::hearing;
 use crate::refusal::Refusal;
 use crate::room;
@@ -40,22 +39,19 @@ fn reader_refusal(why: frames::Refusal) -> Refusal
 }
 
 // 18. Is the highest at least the level and every number held? Place by place, with no way out of the loop, so
-// that the compiler can test many at once: in place i is the number that follows `before` others above the safe
-// mark. Ruled out: a held number above the highest; a free place taken for one.
+// that the compiler can test many at once. Ruled out: a held number above the highest; a free place taken for one.
 fn covers_held(l: LogHead, highest: MessageNumber) -> bool
     ensures { λ r. ⌜ ((contents : List ℕ) → r ≡ coversHeld (logOn l contents) (highest .0)) ⌝ }
 {
     if highest.0 < l.level.0 {
         return false;
     }
-    let most = record::MOST_HELD as u32;
     let senders = l.senders;
-    let covered = flow::less(highest.0, l.safe.0);
-    let last = l.safe.0 % most;
+    let covered = words::less(highest.0, l.safe.0);
     let mut good = true;
     let mut i = 0;
     while i < record::MOST_HELD {
-        let before = (i as u32 + most - 1 - last) % most;
+        let before = record::numbers_before(l.safe, i);
         good = good & ((before < covered) | (senders[i] == 0));
         i += 1;
     }

@@ -22,25 +22,18 @@ pub fn smaller(a: u32, b: u32) -> u32
     if a <= b { a } else { b }
 }
 
-// Not below 0.
-pub fn less(a: u32, b: u32) -> u32
-    ensures { λ r. ⌜ r ≡ a - b ⌝ }
-{
-    if a <= b { 0 } else { a - b }
-}
-
 // 1. The others' count.
 pub fn others(round: u16, broadcast: u8) -> u32
     ensures { λ r. ⌜ r ≡ round - broadcast ⌝ }
 {
-    less(round as u32, broadcast as u32)
+    words::less(round as u32, broadcast as u32)
 }
 
 // 1. The allowance.
 fn allowance(others: u32) -> u32
     ensures { λ r. ⌜ r ≡ min mostNew (mostInRound - others) ⌝ }
 {
-    smaller(MOST_NEW, less(MOST_IN_ROUND, others))
+    smaller(MOST_NEW, words::less(MOST_IN_ROUND, others))
 }
 
 // 3. How many new messages. Ruled out: the posts alone decide; the repeats don't count.
@@ -50,9 +43,9 @@ pub fn new_count(h: Head, s: &[u8], t: Token, repeats: u32) -> u32
     ensures { λ r. ⌜ r ≡ newCount (visit (recordIn h (now (s .entry))) t) ⌝ }
 {
     let highest = t.highest.0;
-    let allowed = less(allowance(others(t.round, h.turn.broadcast)), repeats);
-    let window = less(h.log.safe.0 + record::MOST_HELD as u32, highest);
-    let numbers = less(frames::MOST_NUMBER, highest);
+    let allowed = words::less(allowance(others(t.round, h.turn.broadcast)), repeats);
+    let window = words::less(h.log.safe.0 + record::MOST_HELD as u32, highest);
+    let numbers = words::less(frames::MOST_NUMBER, highest);
     smaller(
         allowed,
         smaller(h.posts.count as u32, smaller(window, numbers)),

@@ -7,15 +7,16 @@ use borrow.Author.Needs.{needs}
 use borrow.Author.Tests.{not-true, not-false}
 use Rattle.words.specs.Scan.{allZero}
 use Rattle.frames.specs.Layout.{mostContent}
-use Rattle.record.specs.Contents.{padding, allLimits}
+use Rattle.record.specs.Contents.{padding}
 use Rattle.record.specs.Whole.{contentsPadded}
 use Rattle.record.proofs.CountLaws.{Counting, count-starts, count-stops, count-goes, count-ends}
+use Rattle.record.proofs.PieceLaws.{limits as allowed}
 use Rattle.record.proofs.UnusedLaws.{padding-tested}
 use Rattle.record.proofs.unused.contents_padded.Statement.{statement}
 use Rattle.record.proofs.unused.contents_padded.Tie as tie
 
 abbrev Inv-loop : tie.InvT-loop
-Inv-loop lengths contents limits i₀ i = (limits ≡ allLimits) × Counting (λ place. allZero (padding lengths contents place)) 0 (length lengths) i
+Inv-loop lengths contents limits i₀ i = (limits ≡ allowed) × Counting (λ place. allZero (padding lengths contents place)) 0 (length lengths) i
 
 abbrev μ-loop : tie.MeasureT-loop
 μ-loop lengths contents limits i₀ i = length lengths - i

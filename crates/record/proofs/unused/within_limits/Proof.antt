@@ -3,16 +3,15 @@ use native.Mathlib.Nat.{zero-add}
 use lib.ListN.{getD}
 use lib.Dec.{leb}
 use borrow.Author.Needs.{needs}
-use Rattle.frames.specs.Layout.{mostContent}
 use Rattle.record.proofs.CountLaws.{Gathered, gathered-starts, gathered-goes, gathered-ends}
 use Rattle.record.proofs.unused.within_limits.Statement.{statement}
 use Rattle.record.proofs.unused.within_limits.Tie as tie
 
 abbrev Inv-loop : tie.InvT-loop
-Inv-loop s limits good₀ i₀ good i = Gathered (λ i. leb (getD s i 0) (getD limits i 0)) 0 mostContent good i
+Inv-loop s limits good₀ i₀ good i = Gathered (λ i. leb (getD s i 0) (getD limits i 0)) 0 16 good i
 
 abbrev μ-loop : tie.MeasureT-loop
-μ-loop s limits good₀ i₀ good i = mostContent - i
+μ-loop s limits good₀ i₀ good i = 16 - i
 
 loop-holds : tie.Need-loop-holds Inv-loop μ-loop
 loop-holds c = gathered-starts _ _ _

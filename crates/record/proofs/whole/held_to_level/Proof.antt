@@ -1,5 +1,4 @@
-use Prim.Native.Nat.{_-_, _<_}
-use mathlib.Core.Path.{_≡_}
+use Prim.Native.Nat.{_-_}
 use native.Mathlib.Nat.{zero-add}
 use borrow.Author.Needs.{needs}
 use Rattle.record.specs.Size.{mostHeld}
@@ -10,29 +9,27 @@ use Rattle.record.proofs.whole.held_to_level.Statement.{statement}
 use Rattle.record.proofs.whole.held_to_level.Tie as tie
 
 abbrev Inv-loop : tie.InvT-loop
-Inv-loop contents most senders many last good₀ i₀ good i = (most ≡ mostHeld) × (last < mostHeld) × Gathered (placeFilled senders many last) 0 mostHeld good i
+Inv-loop l contents senders many good₀ i₀ good i = Gathered (placeFilled senders many (l .safe .0)) 0 mostHeld good i
 
 abbrev μ-loop : tie.MeasureT-loop
-μ-loop contents most senders many last good₀ i₀ good i = mostHeld - i
+μ-loop l contents senders many good₀ i₀ good i = mostHeld - i
 
 returns : tie.Need-returns Inv-loop μ-loop
-returns c = level-too-high (logOn (c .before .before .before .before .args .l) (c .before .before .before .before .args .contents .now)) (rw (c .before .numbers-above .ensures) at (c .if1 .taken))
+returns c = level-too-high (logOn (c .before .before .before .before .args .l) (c .before .before .before .before .args .contents .now)) (rw (c .before .less .ensures) at (c .if1 .taken))
 
 loop-holds : tie.Need-loop-holds Inv-loop μ-loop
-loop-holds c = (search needs, search needs, gathered-starts _ _ _)
+loop-holds c = gathered-starts _ _ _
 
 loop-again : tie.Need-loop-again Inv-loop μ-loop
-loop-again c =
-    let so-far = c .before .loop .inv in
-    (so-far .0, so-far .1, rw (so-far .0) (rw zero-add at (gathered-goes _ _ _ _ _ (so-far .2) (c .loop-test .taken))))
+loop-again c = rw (c .numbers-before .ensures) (rw zero-add at (gathered-goes _ _ _ _ _ (c .before .before .loop .inv) (c .before .loop-test .taken)))
 
 returns-2 : tie.Need-returns-2 Inv-loop μ-loop
 returns-2 c =
-    let l = logOn (c .before .before .before .before .before .before .before .args .l) (c .before .before .before .before .before .before .before .args .contents .now) in
-    level-by-place l _ (rw (c .before .before .before .before .numbers-above .ensures) at (c .before .before .before .if1 .left))
-    (rw (c .before .before .before .before .numbers-above .ensures) at (gathered-ends _ _ _ _ _ (c .before .loop .inv .2) (c .loop-test .left)))
+    let few = c .before .before .before .less .ensures in
+    level-by-place (logOn (c .before .before .before .before .before .before .args .l) (c .before .before .before .before .before .before .args .contents .now)) _ (rw few at (c .before .before .if1 .left))
+    (rw few at (gathered-ends _ _ _ _ _ (c .before .loop .inv) (c .loop-test .left)))
 
 pub held-to-level-spec : {M : Type 1} → statement M
 held-to-level-spec =
     tie.close
-    (tie.spec Inv-loop μ-loop (λ c. search needs) (λ c κs. search needs) returns (λ c. search needs) loop-holds (λ c. search needs) (λ c. search needs) (λ c. search needs) (λ c. search needs) (λ c. search needs) (λ c. search needs) (λ c. search needs) (λ c. search needs) (λ c. search needs) loop-again returns-2)
+    (tie.spec Inv-loop μ-loop (λ c κs. search needs) (λ c. search needs) returns loop-holds (λ c κs. search needs) (λ c. search needs) (λ c. search needs) (λ c. search needs) (λ c. search needs) loop-again returns-2)
