@@ -31,9 +31,9 @@ pub struct PostsHead {
 }
 
 pub struct Head {
-    pub own: u16,
     pub log: LogHead,
     pub turn: Turn,
+    pub own: u16,
     pub posts: PostsHead,
 }
 

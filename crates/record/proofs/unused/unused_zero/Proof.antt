@@ -4,7 +4,7 @@ use Rattle.record.proofs.unused.unused_zero.Statement.{statement}
 use Rattle.record.proofs.unused.unused_zero.Tie as tie
 
 slice-aggregate-zero-from-u8 : tie.Need-slice-aggregate-zero-from-u8
-slice-aggregate-zero-from-u8 c = let g = c .before .before .before .before .before .before .good .0 .1 .1 .1 .1 .0 .1 .1 .1 .1 .1 .0 in search needs
+slice-aggregate-zero-from-u8 c = let g = c .before .before .before .before .before .before .good .0 .1 .1 .1 .0 .1 .1 .1 .1 .1 .0 in search needs
 
 returns : tie.Need-returns
 unfolding unusedZero

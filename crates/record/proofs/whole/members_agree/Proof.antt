@@ -11,13 +11,13 @@ use Rattle.record.proofs.whole.members_agree.Tie as tie
 part-ids-end : tie.Need-part-ids-end
 part-ids-end c =
     let start = c .before .before .before .before .before in
-    let members = start .good .0 .1 .1 .1 .0 .1 .1 .1 .0 in
+    let members = start .good .0 .1 .1 .0 .1 .1 .1 .0 in
     let long : length (start .args .h .log .members) ≡ mostMembers = search needs in
     omega (arith, long, start .pre .0)
 
 slice-aggregate-senders-are-members : tie.Need-slice-aggregate-senders-are-members
 slice-aggregate-senders-are-members c =
-    let senders = c .before .before .before .before .before .before .before .before .good .0 .1 .1 .1 .0 .1 .1 .1 .1 in
+    let senders = c .before .before .before .before .before .before .before .before .good .0 .1 .1 .0 .1 .1 .1 .1 in
     search needs
 
 returns : tie.Need-returns
