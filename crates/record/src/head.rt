@@ -30,6 +30,7 @@ pub struct PostsHead {
     pub count: u8,
 }
 
+// The own id stands behind the turn, which ends at an odd byte: so there is no hole before the posts' arrays.
 pub struct Head {
     pub log: LogHead,
     pub turn: Turn,
