@@ -40,9 +40,10 @@ fn zero_from_u8(s: &[u8], n: u8) -> bool
     words::all_zero_u8(&s[first..])
 }
 
-// A content is looked at in pieces of 16 bytes, so that the compiler can test each at once. The last begins here.
+// A content is looked at in pieces of 16 bytes, so that the compiler can test each at once.
 const PIECE: usize = 16;
 
+// Where the last begins.
 const LAST_PIECE: usize = frames::MOST_CONTENT - PIECE;
 
 // Where a piece begins that would begin at a place, but ends with the content at the latest.
@@ -57,7 +58,7 @@ fn piece_at(place: usize) -> usize
 }
 
 // The bytes of a content from a place on: four pieces, which overlap where there are less than 64 bytes. Ruled
-// out: a byte between two pieces; the byte before the place asked to be zero.
+// out: a byte between two pieces left out; the byte before the place asked to be zero.
 fn pieces_zero(s: &[u8], first: usize) -> bool
     requires { ⌜ (length (now s) ≡ mostContent) × (first ≤ 48) ⌝ }
     ensures { λ r. ⌜ r ≡ allZero (drop first (now (s .entry))) ⌝ }
