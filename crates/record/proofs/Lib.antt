@@ -1,5 +1,6 @@
 pub mod Arrays
 pub mod PieceLaws
+pub mod StrikeLaws
 pub mod ListLaws
 pub mod CountLaws
 pub mod RangeFacts

@@ -1,6 +1,7 @@
 // Is a record whole?
 ghost use mathlib.Core.Path.{_≡_};
-ghost use mathlib.Core.Bool.{_&&_, _||_};
+ghost use mathlib.Core.Bool.{_&&_, cond};
+ghost use mathlib.Core.List.{map};
 ghost use Prim.Native.Nat.{_≤_};
 ghost use lib.Dec.{eqb};
 ghost use lib.ListN.{length};
@@ -8,7 +9,7 @@ ghost use Rattle.frames.specs.Number.{mostNumber};
 ghost use Rattle.frames.specs.Layout.{longestToken};
 ghost use Rattle.record.specs.Size.{mostMembers, heldContents, postContents};
 ghost use Rattle.record.specs.Head.{logOn, recordOn};
-ghost use Rattle.record.specs.Members.{isMember, foundable};
+ghost use Rattle.record.specs.Members.{foundable};
 ghost use Rattle.record.specs.Ring.{ids};
 ghost use Rattle.record.specs.Whole.{sendersAreMembers, leaveIsGood, marksInOrder, arusReached, heldToLevel, nextNotHeld, whole};
 use crate::Record;
@@ -25,28 +26,36 @@ use crate::unused;
 use frames::MessageNumber;
 use frames::RingNumber;
 
-// A place is free, or its sender is a member. Most places are free: no member is looked at for them.
-fn is_sender(ids: &[u16], x: u16) -> bool
-    ensures { λ r. ⌜ r ≡ (eqb x 0 || isMember (now (ids .entry)) x) ⌝ }
+// 0 in place of this id; any other stays.
+fn struck(x: u16, id: u16) -> u16
+    ensures { λ r. ⌜ r ≡ cond (eqb x id) 0 x ⌝ }
 {
-    if x == 0 {
-        return true;
-    }
-    members::is_member(ids, x)
+    if x == id { 0 } else { x }
 }
 
-fn senders_are_members(ids: &[u16], senders: &[u16]) -> bool
-    ensures { λ r. ⌜ r ≡ sendersAreMembers (now (ids .entry)) (now (senders .entry)) ⌝ }
+// The same in every place. With no way out of the loop, so that the compiler can do many at once.
+fn strike(left: &mut [u16], id: u16)
+    ensures { λ _. ⌜ now (left .exit) ≡ map (λ x. cond (eqb x id) 0 x) (now (left .entry)) ⌝ }
 {
     let mut i = 0;
-    while i < senders.len() {
-        let good = is_sender(ids, senders[i]);
-        if !good {
-            return false;
-        }
+    while i < left.len() {
+        left[i] = struck(left[i], id);
         i += 1;
     }
-    true
+}
+
+// Each place is free, or its sender is a member: with every member struck out, nothing is left. Ruled out: the
+// last place not looked at; a free place taken for a stranger's.
+fn senders_are_members(ids: &[u16], senders: [u16; size::MOST_HELD]) -> bool
+    ensures { λ r. ⌜ r ≡ sendersAreMembers (now (ids .entry)) senders ⌝ }
+{
+    let mut left = senders;
+    let mut i = 0;
+    while i < ids.len() {
+        strike(&mut left, ids[i]);
+        i += 1;
+    }
+    words::all_zero_u16(&left)
 }
 
 fn leave_is_good(ring: RingNumber, ids: &[u16], t: Turn) -> bool
@@ -111,7 +120,7 @@ fn members_agree(h: Head, contents: &[u8]) -> bool
     let n = h.log.count as usize;
     let ids = &members[0..n];
     let ring = h.log.ring;
-    senders_are_members(ids, &senders)
+    senders_are_members(ids, senders)
         & leave_is_good(ring, ids, h.turn)
         & members::foundable_by(ids, h.own, ring)
 }

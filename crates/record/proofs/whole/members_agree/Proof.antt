@@ -15,14 +15,9 @@ part-ids-end c =
     let long : length (start .args .h .log .members) ≡ mostMembers = search needs in
     omega (arith, long, start .pre .0)
 
-slice-aggregate-senders-are-members : tie.Need-slice-aggregate-senders-are-members
-slice-aggregate-senders-are-members c =
-    let senders = c .before .before .before .before .before .before .before .before .good .0 .1 .1 .0 .1 .1 .1 .1 in
-    search needs
-
 returns : tie.Need-returns
 returns c =
-    let start = c .before .before .before .before .before .before .before .before .before .before .before in
+    let start = c .before .before .before .before .before .before .before .before .before .before in
     members-tested (logOn (start .args .h .log) (start .args .contents .now)) (start .args .h .own) (start .args .h .turn) _ _ _
     (c .before .before .senders-are-members .ensures)
     (c .before .leave-is-good .ensures) (c .foundable-by .ensures)
@@ -31,4 +26,4 @@ pub members-agree-spec : {M : Type 1} → statement M
 members-agree-spec =
     tie.close
     (tie.spec (λ c. search needs) (λ c. search needs) (λ c. search needs) part-ids-end
-    slice-aggregate-senders-are-members (λ c κs. search needs) (λ c κs. search needs) (λ c κs. search needs) returns)
+    (λ c κs. search needs) (λ c κs. search needs) (λ c κs. search needs) returns)
