@@ -1,7 +1,7 @@
 -- Ids are struck out of a list, one after another: what is left.
 use Prim.Native.Nat.{ℕ, zero, suc, _+_, _<_, _≤_}
 use mathlib.Core.Path.{_≡_, refl, sym, ap, _∙_}
-use mathlib.Core.Bool.{Bool, true, false, not, _&&_, _||_, cond, or-true, or-false}
+use mathlib.Core.Bool.{_&&_, _||_, cond, or-true}
 use mathlib.Core.List.{List, [], _∷_, _++_, map, append-nil}
 use borrow.Author.Tests.{le-leb, lt-leb, eq-eqb, ne-eqb}
 use native.Mathlib.Numerals.{add-one}
@@ -10,7 +10,7 @@ use native.Mathlib.Omega.{arith}
 use lib.ListN.{length, getD, set, take, drop, length-set, length-map, drop-of-length-le}
 use lib.Dec.{leb, eqb}
 use lib.Seq.{drop-cons, take-all}
-use Rattle.words.specs.Scan.{every, allZero, lacks}
+use Rattle.words.specs.Scan.{every, allZero}
 use Rattle.record.specs.Members.{isMember}
 use Rattle.record.specs.Whole.{sendersAreMembers}
 

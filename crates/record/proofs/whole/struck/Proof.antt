@@ -1,4 +1,3 @@
-use borrow.Author.Needs.{needs}
 use borrow.Author.Tests.{eq-eqb, ne-eqb}
 use Rattle.record.proofs.whole.struck.Statement.{statement}
 use Rattle.record.proofs.whole.struck.Tie as tie
