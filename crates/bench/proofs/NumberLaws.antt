@@ -1,10 +1,9 @@
 -- What a hexadecimal digit is worth, range by range.
 use Prim.Native.Nat.{ℕ, _+_, _-_, _<_, _≤_}
 use mathlib.Core.Path.{_≡_}
-use mathlib.Core.Bool.{_&&_, and-false}
+use mathlib.Core.Bool.{and-false}
 use borrow.Author.Tests.{le-leb, lt-leb}
 use native.Mathlib.Omega.{arith}
-use lib.Dec.{leb}
 use Rattle.bench.specs.Number.{hexValue}
 
 module _ (b : ℕ) where

@@ -1,7 +1,7 @@
 // Bytes that a line keeps: ids, two bytes each, a content, or a frame. Room for one byte more than
 // the longest frame, so that what is cut off there is too long for any use.
 ghost use mathlib.Core.Path.{_≡_};
-ghost use lib.ListN.{length, take};
+ghost use lib.ListN.{take};
 
 pub const KEPT_ROOM: usize = 65538;
 

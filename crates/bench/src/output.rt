@@ -1,6 +1,4 @@
 // Standard output through a buffer, and faults on standard error.
-ghost use Prim.Native.Nat.{_≤_};
-ghost use lib.ListN.{length};
 use crate::kept;
 use crate::line::Fault;
 use libc::STDERR_FILENO;

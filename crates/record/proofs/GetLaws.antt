@@ -8,7 +8,7 @@ use Rattle.words.specs.Word.{wordAt}
 use Rattle.words.specs.Run.{words}
 use Rattle.words.proofs.ScanLaws.{to-end}
 use Rattle.frames.specs.Layout.{longestToken}
-use Rattle.record.specs.Size.{mostMembers, mostHeld, mostPosts, heldContents, postContents}
+use Rattle.record.specs.Size.{mostMembers, mostHeld, mostPosts, heldContents}
 use Rattle.record.specs.Layout.{ownAt, logAt, turnAt, postsAt, ringAt, memberCountAt, membersAt, levelAt, safeAt, deliveredAt, heldMessagesAt, sendersAt, heldServicesAt, heldLengthsAt, heldContentsAt, aruAt, earlierAt, tokenNumberAt, broadcastAt, stallAt, tokenSizeAt, tokenAt, postCountAt, postServicesAt, postLengthsAt, postContentsAt}
 use Rattle.record.specs.Bytes.{bytesAt, heldOf, logOf, turnOf, postsOf, recordOf}
 use Rattle.record.specs.Head.{logOn, postsOn, recordOn, contentsIn, waitingIn}

@@ -7,7 +7,7 @@ use lib.ListN.{length, take, drop, length-append, length-drop, drop-of-length-le
 use lib.Seq.{sets, sets-eq, length-take-le, take-all, take-append-le, drop-at, drop-drop}
 use Rattle.words.specs.Word.{Bytes}
 use Rattle.words.proofs.ScanLaws.{to-end}
-use Rattle.record.specs.Size.{mostPosts, postContents}
+use Rattle.record.specs.Size.{postContents}
 use Rattle.record.specs.Layout.{postsAt, postContentsAt, postsSize, recordSize}
 use Rattle.record.specs.Bytes.{postsOf, postsBytes, recordOf, recordBytes}
 use Rattle.record.specs.Posts.{queued}

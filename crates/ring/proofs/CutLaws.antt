@@ -1,15 +1,13 @@
 -- Bytes cut into frames, one after another.
 use Prim.Native.Nat.{ℕ, zero, suc, _+_, _-_, _<_, _≤_, min}
 use mathlib.Core.Path.{_≡_, refl, sym, ap, _∙_}
-use mathlib.Core.Bool.{Bool, true, false, cond}
+use mathlib.Core.Bool.{true, false}
 use mathlib.Core.List.{List, [], _∷_}
 use borrow.Author.Tests.{eq-eqb, ne-eqb, le-leb, lt-leb}
-use native.Mathlib.Nat.{min-eq-left, min-eq-right}
 use native.Mathlib.Decide.{decLt}
 use native.Mathlib.Omega.{arith}
 use lib.ListN.{length, take, drop, length-take, length-drop, drop-of-length-le}
 use lib.Seq.{take-all, take-nil, length-take-le, drop-drop}
-use Rattle.words.specs.Word.{wordAt}
 use Rattle.frames.specs.Layout.{lengthSize}
 use Rattle.frames.specs.Header.{ownSize, framedSize}
 use Rattle.frames.proofs.Sizes.{framed-none}

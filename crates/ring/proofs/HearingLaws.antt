@@ -5,7 +5,7 @@ use mathlib.Core.Bool.{Bool, true, false, cond}
 use mathlib.Core.List.{List, [], _∷_, _++_, append-assoc, append-nil}
 use native.Mathlib.Omega.{arith}
 use lib.ListN.{length, take, drop, length-append, length-take, length-drop, take-append-drop, drop-of-length-le}
-use lib.Seq.{take-all, take-at, length-take-le, drop-drop, drop-append-le, drop-append-add}
+use lib.Seq.{take-all, take-at, length-take-le, drop-drop, drop-append-add}
 use Rattle.frames.specs.Header.{ownSize}
 use Rattle.frames.specs.Read.{readOf}
 use Rattle.station.specs.Answer.{outcomeOf}

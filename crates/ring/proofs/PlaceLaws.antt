@@ -1,6 +1,6 @@
 -- Records one after another in lent bytes: the part of a place as the code spells it, and what a call there leaves.
 use Prim.Native.Nat.{ℕ, _+_, _*_, _-_, _<_, _≤_, min}
-use mathlib.Core.Path.{_≡_, refl, sym, ap, _∙_}
+use mathlib.Core.Path.{_≡_, refl, ap, _∙_}
 use mathlib.Core.List.{List, [], _∷_, _++_, append-nil}
 use native.Mathlib.Nat.{min-eq-left, min-eq-right}
 use native.Mathlib.Decide.{decLt}
@@ -8,9 +8,7 @@ use native.Mathlib.Omega.{arith}
 use lib.ListN.{length, take, drop, length-append, length-take, length-drop, take-append-drop, drop-of-length-le}
 use lib.Seq.{take-all, take-nil, take-length, drop-length, length-take-le, take-at, drop-at, drop-drop}
 use Rattle.record.specs.Layout.{recordSize}
-use Rattle.station.specs.Answer.{outcomeOf}
 use Rattle.station.specs.Reply.{Reply, doneOf}
-use Rattle.station.specs.declared.answer.Outcome.{Outcome}
 use Rattle.totem.specs.Over.{stationAfter}
 use Rattle.ring.specs.Stations.{recordAt, withRecord, recordsAfter}
 

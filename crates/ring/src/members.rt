@@ -1,8 +1,7 @@
 // The list of members as bytes, two an id, and the place of an id in it.
 ghost use mathlib.Core.Path.{_≡_};
-ghost use Prim.Native.Nat.{_<_, _≤_};
+ghost use Prim.Native.Nat.{_<_};
 ghost use lib.ListN.{length, getD};
-ghost use Rattle.frames.specs.Read.{readOf};
 ghost use Rattle.totem.specs.Over.{idsIn};
 ghost use Rattle.ring.specs.Stations.{placeFrom, addresseePlace};
 

@@ -1,7 +1,7 @@
 // Stations by place: their records stand one after another in lent bytes, place p's from
 // RECORD_SIZE * p on. A call at a place is the call over bytes on the record there.
 ghost use mathlib.Core.Path.{_≡_};
-ghost use Prim.Native.Nat.{_+_, _*_, _≤_, min};
+ghost use Prim.Native.Nat.{_+_, _*_, min};
 ghost use lib.ListN.{length};
 ghost use Rattle.record.specs.Layout.{recordSize};
 ghost use Rattle.station.specs.Answer.{outcomeOf};

@@ -14,7 +14,7 @@ use Rattle.record.specs.declared.head.LogHead.{LogHead}
 use Rattle.record.specs.declared.posts.Posts.{Posts}
 use Rattle.record.proofs.PostLaws.{length-posts, posts-add}
 use Rattle.record.proofs.RangeFacts.{PostsRange}
-use Rattle.station.specs.Visit.{sentBy, withNews}
+use Rattle.station.specs.Visit.{withNews}
 
 -- the n oldest
 oldest : (p : Posts) (n : ℕ) → n ≤ p .count → take n (waiting p) ≡ postsFrom p 0 n

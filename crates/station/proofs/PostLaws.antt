@@ -1,6 +1,6 @@
 -- Posting: not whole, refused by 7 to 9, or taken.
 use Prim.Native.Nat.{ℕ, _<_, _≤_}
-use mathlib.Core.Path.{_≡_, refl, sym, ap, _∙_}
+use mathlib.Core.Path.{_≡_, refl, sym}
 use mathlib.Core.Bool.{Bool, true, false, false≢true, cond}
 use mathlib.Core.List.{List, []}
 use borrow.Author.Tests.{leb-true, ltb-true}

@@ -2,7 +2,7 @@
 -- definition on the record in those bytes. [document 01, The station and its neighbours]
 use Prim.Native.Nat.{ℕ, _/_, _%_}
 use mathlib.Core.Path.{_≡_}
-use mathlib.Core.Bool.{Bool, _&&_, cond}
+use mathlib.Core.Bool.{_&&_, cond}
 use mathlib.Core.List.{List, [], _++_}
 use lib.ListN.{length, drop}
 use lib.Dec.{leb, eqb}
@@ -19,7 +19,6 @@ use Rattle.station.specs.Post.{posted}
 use Rattle.station.specs.Resend.{resent}
 use Rattle.station.specs.Arrive.{arrived}
 use Rattle.station.specs.declared.done.Done.{Done}
-use Rattle.station.specs.declared.answer.Answer.{Answer}
 use Rattle.station.specs.declared.answer.Answer.the-variants.{Founded}
 
 -- the ids in a list of members; an odd number of bytes is no list

@@ -1,7 +1,6 @@
 use mathlib.Core.Path.{refl, sym, _∙_}
 use native.Mathlib.Omega.{arith}
 use borrow.Author.Tests.{not-true, not-false}
-use lib.ListN.{length}
 use borrow.Author.Needs.{needs}
 use Rattle.words.proofs.RunLaws.{length-words}
 use Rattle.totem.proofs.FoundOver.{count-fits, ids-read, found-over-roomless, found-refused, found-taken}

@@ -1,5 +1,4 @@
 use mathlib.Core.Path.{refl, sym, _∙_}
-use native.Mathlib.Omega.{arith}
 use borrow.Author.Tests.{not-true, not-false}
 use borrow.Author.Needs.{needs}
 use Rattle.totem.proofs.OverLaws.{whole-enough, whole-long, post-not-whole, post-refused, post-count-fits, post-taken}

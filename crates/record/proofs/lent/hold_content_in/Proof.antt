@@ -1,5 +1,4 @@
-use Prim.Native.Nat.{_-_}
-use mathlib.Core.Path.{_≡_, _∙_}
+use mathlib.Core.Path.{_∙_}
 use borrow.Author.Needs.{needs}
 use Rattle.record.proofs.PartLaws.{contents-put, waiting-left, content-copied}
 use Rattle.record.proofs.lent.hold_content_in.Statement.{statement}

@@ -5,7 +5,7 @@ use lib.ListN.{length, getD}
 use borrow.Author.Needs.{needs}
 use mir.Val.{Fits}
 use mir.Syntax.{w16}
-use Rattle.record.specs.Size.{mostHeld, heldContents}
+use Rattle.record.specs.Size.{mostHeld}
 use Rattle.record.proofs.RangeLaws.{held-tested}
 use Rattle.record.proofs.range.held_in_range.Statement.{statement}
 use Rattle.record.proofs.range.held_in_range.Tie as tie

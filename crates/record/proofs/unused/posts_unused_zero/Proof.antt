@@ -2,7 +2,7 @@ use mathlib.Core.Path.{_≡_}
 use native.Mathlib.Omega.{arith}
 use lib.ListN.{length}
 use borrow.Author.Needs.{needs}
-use Rattle.record.specs.Size.{mostPosts, postContents}
+use Rattle.record.specs.Size.{mostPosts}
 use Rattle.record.specs.Whole.{postsUnusedZero}
 use Rattle.record.proofs.unused.posts_unused_zero.Statement.{statement}
 use Rattle.record.proofs.unused.posts_unused_zero.Tie as tie

@@ -1,8 +1,7 @@
 use mathlib.Core.Path.{_≡_, sym, ap, _∙_}
-use mathlib.Core.Bool.{true, false}
+use mathlib.Core.Bool.{true}
 use borrow.Author.Tests.{not-true, not-false}
 use borrow.Author.Needs.{needs}
-use Rattle.record.specs.declared.Record.{Record}
 use Rattle.station.specs.Reply.{doneOf}
 use Rattle.station.specs.Answer.{isTaken}
 use Rattle.station.specs.Door.{postAnswer}

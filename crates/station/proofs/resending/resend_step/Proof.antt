@@ -1,7 +1,6 @@
-use mathlib.Core.Path.{refl, sym, ap, _∙_}
+use mathlib.Core.Path.{refl, sym, _∙_}
 use borrow.Author.Tests.{not-true, not-false}
 use borrow.Author.Needs.{needs}
-use Rattle.station.specs.declared.answer.Answer.{Answer}
 use Rattle.station.proofs.ResendLaws.{resent-not-whole, resent-whole, token-fits}
 use Rattle.station.proofs.resending.resend_step.Statement.{statement}
 use Rattle.station.proofs.resending.resend_step.Tie as tie
