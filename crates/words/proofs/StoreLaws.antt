@@ -6,7 +6,7 @@ use native.Mathlib.Nat.{add-zero, add-suc, suc-add, zero-add}
 use native.Mathlib.Omega.{arith}
 use lib.ListN.{length, set, take, drop, length-append, length-drop, length-replicate, drop-of-length-le, replicate, take-append-drop}
 use Rattle.words.proofs.ScanLaws.{to-end}
-use lib.Seq.{sets, sets-eq, length-sets, take-at, drop-at, take-add, drop-drop, length-take-le, take-all}
+use lib.Seq.{sets, sets-eq, length-sets, take-at, drop-at, take-add, drop-drop, length-take-le, take-all, take-append-le}
 
 pub sets-append : (a b l : List ℕ) (i : ℕ) → sets l i (a ++ b) ≡ sets (sets l i a) (i + length a) b
 sets-append [] b l i = rw add-zero
@@ -86,11 +86,10 @@ next-piece l xs l′ at i k h e =
 
 -- ---- as the code spells them: a piece goes by way of an array of zeros, and what is left of xs is a part to the end
 
-pub piece-put : (l l′ piece xs : List ℕ) (at k : ℕ) → piece ≡ take k xs ++ drop {A = ℕ} k (replicate k 0) → l′ ≡ sets l at piece → l′ ≡ sets l at (take k xs)
-piece-put l l′ piece xs at k e f =
-    let zeros : List ℕ = replicate k 0 in
-    let none : drop k zeros ≡ [] = drop-of-length-le zeros {i = k} (omega (arith, length-replicate {A = ℕ} k 0)) in
-    let is : piece ≡ take k xs = e ∙ rw none (append-nil (take k xs)) in
+pub piece-put : (l l′ piece xs rest : List ℕ) (at k : ℕ) → k ≤ length xs → piece ≡ take k xs ++ rest → l′ ≡ sets l at (take k piece) → l′ ≡ sets l at (take k xs)
+piece-put l l′ piece xs rest at k few e f =
+    let long : length (take k xs) ≡ k = length-take-le k xs few in
+    let is : take k piece ≡ take k xs = ap (take k) e ∙ take-append-le k (take k xs) rest (omega (arith, long)) ∙ take-all k (take k xs) (omega (arith, long)) in
     f ∙ ap (λ (ys : List ℕ). sets l at ys) is
 
 pub piece-goes : (l xs l₁ l₂ : List ℕ) (at i k : ℕ)

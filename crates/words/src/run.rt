@@ -73,23 +73,14 @@ pub fn put_bytes(out: &mut [u8], at: usize, xs: &[u8])
     }
 }
 
-// The first 16 bytes of xs, by way of an array: the compiler knows that it overlaps nothing.
-fn put_16(out: &mut [u8], at: usize, xs: &[u8])
-    requires { ⌜ (16 ≤ length (now xs)) × (at + 16 ≤ length (now out)) ⌝ }
-    ensures { λ _. ⌜ now (out .exit) ≡ sets (now (out .entry)) at (take 16 (now (xs .entry))) ⌝ }
+// The first n bytes of xs, at most 16, by way of an array: the compiler knows that it overlaps nothing.
+fn put_piece(out: &mut [u8], at: usize, xs: &[u8], n: usize)
+    requires { ⌜ (n ≤ 16) × (n ≤ length (now xs)) × (at + n ≤ length (now out)) ⌝ }
+    ensures { λ _. ⌜ now (out .exit) ≡ sets (now (out .entry)) at (take n (now (xs .entry))) ⌝ }
 {
     let mut piece = [0u8; 16];
-    get_bytes(xs, 0, 16, &mut piece);
-    put_bytes(out, at, &piece);
-}
-
-fn put_8(out: &mut [u8], at: usize, xs: &[u8])
-    requires { ⌜ (8 ≤ length (now xs)) × (at + 8 ≤ length (now out)) ⌝ }
-    ensures { λ _. ⌜ now (out .exit) ≡ sets (now (out .entry)) at (take 8 (now (xs .entry))) ⌝ }
-{
-    let mut piece = [0u8; 8];
-    get_bytes(xs, 0, 8, &mut piece);
-    put_bytes(out, at, &piece);
+    get_bytes(xs, 0, n, &mut piece);
+    put_bytes(out, at, &piece[0..n]);
 }
 
 // Fewer than 16 bytes: the first 8 and the last 8, which may overlap, or one by one.
@@ -102,8 +93,8 @@ fn put_few(out: &mut [u8], at: usize, xs: &[u8])
         put_bytes(out, at, xs);
         return;
     }
-    put_8(out, at, xs);
-    put_8(out, at + (n - 8), &xs[n - 8..]);
+    put_piece(out, at, xs, 8);
+    put_piece(out, at + (n - 8), &xs[n - 8..], 8);
 }
 
 // The same as put_bytes, for a number of bytes that the compiler does not know: 16 at a time, and the last 16
@@ -119,10 +110,10 @@ pub fn put_many(out: &mut [u8], at: usize, xs: &[u8])
     }
     let mut i = 0;
     while i + 16 <= n {
-        put_16(out, at + i, &xs[i..]);
+        put_piece(out, at + i, &xs[i..], 16);
         i += 16;
     }
-    put_16(out, at + (n - 16), &xs[n - 16..]);
+    put_piece(out, at + (n - 16), &xs[n - 16..], 16);
 }
 
 pub fn put_u16s(out: &mut [u8], at: usize, xs: &[u16])

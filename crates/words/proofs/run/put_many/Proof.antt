@@ -21,13 +21,13 @@ loop-again : tie.Need-loop-again Inv-loop μ-loop
 loop-again c =
     let start = c .before .before .before .before .before .before .before .before .before .before in
     let so-far = c .before .before .before .before .before .before .loop .inv in
-    (so-far .0, so-far .1, c .before .before .before .before .before .loop-test .taken, search needs, piece-goes (start .args .out .now) (start .args .xs .now) _ _ (start .args .at) (c .before .before .before .before .before .before .loop .i) 16 (omega (arith, so-far .0, so-far .2)) (so-far .4) (c .before .before .put-16 .ensures))
+    (so-far .0, so-far .1, c .before .before .before .before .before .loop-test .taken, search needs, piece-goes (start .args .out .now) (start .args .xs .now) _ _ (start .args .at) (c .before .before .before .before .before .before .loop .i) 16 (omega (arith, so-far .0, so-far .2)) (so-far .4) (c .before .before .put-piece .ensures))
 
 returns-2 : tie.Need-returns-2 Inv-loop μ-loop
 returns-2 c =
     let start = c .before .before .before .before .before .before .before .before .before .before in
     let so-far = c .before .before .before .before .before .before .loop .inv in
-    piece-ends (start .args .out .now) (start .args .xs .now) _ _ _ (c .before .before .before .before .before .before .loop .i) 16 (omega (arith, so-far .0, so-far .1)) (omega (arith, so-far .0, so-far .2)) (omega (arith, so-far .0, c .before .before .before .before .before .loop-test .left)) (start .pre) (so-far .4) (c .before .before .put-162 .ensures)
+    piece-ends (start .args .out .now) (start .args .xs .now) _ _ _ (c .before .before .before .before .before .before .loop .i) 16 (omega (arith, so-far .0, so-far .1)) (omega (arith, so-far .0, so-far .2)) (omega (arith, so-far .0, c .before .before .before .before .before .loop-test .left)) (start .pre) (so-far .4) (c .before .before .put-piece2 .ensures)
 
 pub put-many-spec : {M : Type 1} → statement M
 put-many-spec =
