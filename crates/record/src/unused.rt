@@ -1,7 +1,7 @@
 // The last clause of whole: a part not in use is zero.
 ghost use mathlib.Core.Path.{_≡_};
 ghost use mathlib.Core.List.{_++_};
-ghost use Prim.Native.Nat.{_*_, _≤_, min};
+ghost use Prim.Native.Nat.{_*_, _≤_};
 ghost use lib.ListN.{length, getD, drop, replicate};
 ghost use lib.Dec.{leb};
 ghost use Rattle.words.specs.Scan.{allZero};
@@ -46,25 +46,14 @@ const PIECE: usize = 16;
 // Where the last begins.
 const LAST_PIECE: usize = frames::MOST_CONTENT - PIECE;
 
-// Where a piece begins that would begin at a place, but ends with the content at the latest.
-fn piece_at(place: usize) -> usize
-    ensures { λ r. ⌜ r ≡ min place 48 ⌝ }
-{
-    if place <= LAST_PIECE {
-        place
-    } else {
-        LAST_PIECE
-    }
-}
-
 // The bytes of a content from a place on: four pieces, which overlap where there are less than 64 bytes. Ruled
 // out: a byte between two pieces left out; the byte before the place asked to be zero.
 fn pieces_zero(s: &[u8], first: usize) -> bool
     requires { ⌜ (length (now s) ≡ mostContent) × (first ≤ 48) ⌝ }
     ensures { λ r. ⌜ r ≡ allZero (drop first (now (s .entry))) ⌝ }
 {
-    let second = piece_at(first + PIECE);
-    let third = piece_at(first + 2 * PIECE);
+    let second = words::smaller_usize(first + PIECE, LAST_PIECE);
+    let third = words::smaller_usize(first + 2 * PIECE, LAST_PIECE);
     let mut good = true;
     let mut i = 0;
     while i < PIECE {

@@ -2,7 +2,7 @@
 ghost use mathlib.Core.Path.{_≡_};
 ghost use mathlib.Core.Bool.{_&&_, cond};
 ghost use mathlib.Core.List.{map};
-ghost use Prim.Native.Nat.{_≤_, min};
+ghost use Prim.Native.Nat.{_≤_};
 ghost use lib.Dec.{eqb};
 ghost use lib.ListN.{length};
 ghost use Rattle.frames.specs.Number.{mostNumber};
@@ -44,24 +44,14 @@ fn strike(left: &mut [u16], id: u16)
     }
 }
 
-// No more than there can be, so that the compiler makes no code for more.
-fn within_members(count: usize) -> usize
-    ensures { λ r. ⌜ r ≡ min count mostMembers ⌝ }
-{
-    if count <= size::MOST_MEMBERS {
-        count
-    } else {
-        size::MOST_MEMBERS
-    }
-}
-
 // Each place is free, or its sender is a member: with every member struck out, nothing is left. Ruled out: the
-// last place not looked at; a free place taken for a stranger's.
+// last place not looked at; a free place taken for a stranger's. That there are 8 at the most is said again, so that
+// the compiler makes no code for more.
 fn senders_are_members(ids: &[u16], senders: [u16; size::MOST_HELD]) -> bool
     requires { ⌜ length (now ids) ≤ mostMembers ⌝ }
     ensures { λ r. ⌜ r ≡ sendersAreMembers (now (ids .entry)) senders ⌝ }
 {
-    let count = within_members(ids.len());
+    let count = words::smaller_usize(ids.len(), size::MOST_MEMBERS);
     let mut left = senders;
     let mut i = 0;
     while i < count {

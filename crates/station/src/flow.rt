@@ -16,12 +16,6 @@ const MOST_NEW: u32 = 8;
 // Broadcasts of one round. The paper's window_size.
 const MOST_IN_ROUND: u32 = 24;
 
-pub fn smaller(a: u32, b: u32) -> u32
-    ensures { λ r. ⌜ r ≡ min a b ⌝ }
-{
-    if a <= b { a } else { b }
-}
-
 // 1. The others' count.
 pub fn others(round: u16, broadcast: u8) -> u32
     ensures { λ r. ⌜ r ≡ round - broadcast ⌝ }
@@ -33,7 +27,7 @@ pub fn others(round: u16, broadcast: u8) -> u32
 fn allowance(others: u32) -> u32
     ensures { λ r. ⌜ r ≡ min mostNew (mostInRound - others) ⌝ }
 {
-    smaller(MOST_NEW, words::less(MOST_IN_ROUND, others))
+    words::smaller(MOST_NEW, words::less(MOST_IN_ROUND, others))
 }
 
 // 3. How many new messages. Ruled out: the posts alone decide; the repeats don't count.
@@ -46,9 +40,9 @@ pub fn new_count(h: Head, s: &[u8], t: Token, repeats: u32) -> u32
     let allowed = words::less(allowance(others(t.round, h.turn.broadcast)), repeats);
     let window = words::less(h.log.safe.0 + record::MOST_HELD as u32, highest);
     let numbers = words::less(frames::MOST_NUMBER, highest);
-    smaller(
+    words::smaller(
         allowed,
-        smaller(h.posts.count as u32, smaller(window, numbers)),
+        words::smaller(h.posts.count as u32, words::smaller(window, numbers)),
     )
 }
 
@@ -57,5 +51,5 @@ pub fn round_after(others: u32, broadcasts: u32) -> u16
     requires { ⌜ others + broadcasts ≤ 100000 ⌝ }
     ensures { λ r. ⌜ r ≡ min (others + broadcasts) mostRound ⌝ }
 {
-    smaller(others + broadcasts, frames::MOST_ROUND as u32) as u16
+    words::smaller(others + broadcasts, frames::MOST_ROUND as u32) as u16
 }

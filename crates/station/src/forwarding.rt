@@ -34,7 +34,7 @@ fn requests_after(h: Head, s: &[u8], t: Token, b: Sent, safe: MessageNumber) -> 
 {
     let highest = t.highest.0 + b.news;
     let window = safe.0 + record::MOST_HELD as u32;
-    let top = MessageNumber(flow::smaller(highest, window));
+    let top = MessageNumber(words::smaller(highest, window));
     requests::add_missing(b.log, b.rest, b.log.level, top)
 }
 

@@ -1,10 +1,10 @@
 -- Stores one after another: what several calls leave, as one list of bytes stored at one place.
 use Prim.Native.Nat.{ℕ, suc, _+_, _-_, _≤_}
 use mathlib.Core.Path.{_≡_, refl, sym, ap, _∙_}
-use mathlib.Core.List.{List, [], _∷_, _++_, append-nil, append-assoc}
+use mathlib.Core.List.{List, [], _∷_, _++_, append-assoc}
 use native.Mathlib.Nat.{add-zero, add-suc, suc-add, zero-add}
 use native.Mathlib.Omega.{arith}
-use lib.ListN.{length, set, take, drop, length-append, length-drop, length-replicate, drop-of-length-le, replicate, take-append-drop}
+use lib.ListN.{length, set, take, drop, length-append, length-drop, take-append-drop}
 use Rattle.words.proofs.ScanLaws.{to-end}
 use lib.Seq.{sets, sets-eq, length-sets, take-at, drop-at, take-add, drop-drop, length-take-le, take-all, take-append-le}
 
@@ -84,7 +84,7 @@ next-piece l xs l′ at i k h e =
     let long : length (take i xs) ≡ i = length-take-le i xs h in
     e ∙ rw (take-add i k xs, sets-append (take i xs) (take k (drop i xs)) l at, long)
 
--- ---- as the code spells them: a piece goes by way of an array of zeros, and what is left of xs is a part to the end
+-- ---- as the code spells them: a piece goes by way of the front of an array, and what is left of xs is a part to the end
 
 pub piece-put : (l l′ piece xs rest : List ℕ) (at k : ℕ) → k ≤ length xs → piece ≡ take k xs ++ rest → l′ ≡ sets l at (take k piece) → l′ ≡ sets l at (take k xs)
 piece-put l l′ piece xs rest at k few e f =

@@ -1,12 +1,14 @@
 // Little-endian words in byte slices, runs of them, and tests of whole slices: what the frames and
-// the station record both stand on. And counting down to 0. A function that takes a position asks that the bytes are there;
-// whoever lends bytes of any length tests that first.
+// the station record both stand on. And what counts need besides. A function that takes a position asks that the
+// bytes are there; whoever lends bytes of any length tests that first.
 mod count;
 mod run;
 mod scan;
 mod word;
 
 pub use count::less;
+pub use count::smaller;
+pub use count::smaller_usize;
 pub use run::copy_u16s;
 pub use run::get_bytes;
 pub use run::get_u16s;

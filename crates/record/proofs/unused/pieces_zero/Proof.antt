@@ -14,7 +14,7 @@ abbrev μ-loop : tie.MeasureT-loop
 μ-loop s first second third good₀ i₀ good i = 16 - i
 
 loop-holds : tie.Need-loop-holds Inv-loop μ-loop
-loop-holds c = (c .before .piece-at .ensures, c .piece-at2 .ensures, gathered-starts _ _ _)
+loop-holds c = (c .before .smaller-usize .ensures, c .smaller-usize2 .ensures, gathered-starts _ _ _)
 
 loop-again : tie.Need-loop-again Inv-loop μ-loop
 loop-again c =

@@ -15,7 +15,7 @@ abbrev μ-loop : tie.MeasureT-loop
 μ-loop ids count left₀ i₀ left i = count - i
 
 loop-holds : tie.Need-loop-holds Inv-loop μ-loop
-loop-holds c = (omega (arith, c .within-members .ensures, c .before .before .pre), (let g = c .before .before .good in search needs), refl)
+loop-holds c = (omega (arith, c .smaller-usize .ensures, c .before .before .pre), (let g = c .before .before .good in search needs), refl)
 
 loop-again : tie.Need-loop-again Inv-loop μ-loop
 loop-again c =
