@@ -7,7 +7,7 @@ use lib.ListN.{length, getD, take, drop}
 use lib.Seq.{take-all}
 use Rattle.frames.specs.Message.{contentOf}
 use Rattle.frames.specs.Read.{readOf}
-use Rattle.frames.specs.Refusal.{refusalNumber}
+use Rattle.frames.specs.Refusal.{frameRefusalNumber}
 use Rattle.frames.specs.declared.message.Message.{Message}
 use Rattle.frames.specs.declared.refusal.Refusal.{Refusal}
 use Rattle.frames.specs.declared.token.Blocker.{Blocker}
@@ -41,7 +41,7 @@ module _ {out : List ℕ} {at after : ℕ} {out′ : List ℕ} where
   module _ (frame : List ℕ) (reading : Reading) (is : reading ≡ readOf frame) where
     pub refused-put : (why : Refusal) (number : ℕ)
         → reading .answer ≡ Refused why
-        → number ≡ refusalNumber why
+        → number ≡ frameRefusalNumber why
         → Put out at (refusalLine number) after out′
         → Put out at (lineOf frame) after out′
     unfolding lineOf

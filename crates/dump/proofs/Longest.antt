@@ -11,8 +11,8 @@ use Rattle.words.specs.Word.{wordAt}
 use Rattle.frames.specs.Layout.{kindAt, messageKind, mostContent, tokenKind, mostRequests}
 use Rattle.frames.specs.Message.{messageOf, contentOf, messageFollows}
 use Rattle.frames.specs.Token.{tokenOf, tokenFollows}
-use Rattle.frames.specs.Refusal.{refusalNumber}
-use Rattle.frames.specs.Read.{lengthExact, messageReads, tokenReads, readMessage, readToken, byKind, readOf, aMessage, aToken, refused}
+use Rattle.frames.specs.Refusal.{frameRefusalNumber}
+use Rattle.frames.specs.Read.{lengthExact, messageReads, tokenReads, readMessage, readToken, byKind, readOf, aMessage, aToken, unreadAs}
 use Rattle.frames.proofs.Facts.{part, message-facts, token-facts}
 use Rattle.frames.specs.declared.message.Message.{Message}
 use Rattle.frames.specs.declared.refusal.Refusal.the-variants.{WrongLength, OtherKind, Malformed}
@@ -91,25 +91,25 @@ unfolding readMessage
 short-message s =
     let m = messageOf s in
     let content = contentOf s in
-    branch (messageReads s) content (aMessage m) (refused Malformed)
+    branch (messageReads s) content (aMessage m) (unreadAs Malformed)
     (λ (e : messageReads s ≡ true). length-message m content ((message-facts m content (part e (λ (f : messageFollows m content ≡ false). simp (f, and-false)))) .short))
-    (length-refusal (refusalNumber Malformed))
+    (length-refusal (frameRefusalNumber Malformed))
 
 short-token : (s : List ℕ) → Short (contentOf s) (readToken s)
 unfolding readToken
 short-token s =
     let t = tokenOf s in
-    branch (tokenReads s) (contentOf s) (aToken t) (refused Malformed)
+    branch (tokenReads s) (contentOf s) (aToken t) (unreadAs Malformed)
     (λ (e : tokenReads s ≡ true). length-token t ((token-facts t (part e (λ (f : tokenFollows t ≡ false). simp (f, and-false)))) .requests .few))
-    (length-refusal (refusalNumber Malformed))
+    (length-refusal (frameRefusalNumber Malformed))
 
-short-kind : (s : List ℕ) → Short (contentOf s) (byKind (wordAt 2 s kindAt) (readMessage s) (readToken s) (refused OtherKind))
+short-kind : (s : List ℕ) → Short (contentOf s) (byKind (wordAt 2 s kindAt) (readMessage s) (readToken s) (unreadAs OtherKind))
 short-kind s =
     let kind = wordAt 2 s kindAt in
-    branch (eqb kind messageKind) (contentOf s) (readMessage s) (cond (eqb kind tokenKind) (readToken s) (refused OtherKind))
+    branch (eqb kind messageKind) (contentOf s) (readMessage s) (cond (eqb kind tokenKind) (readToken s) (unreadAs OtherKind))
     (λ e. short-message s)
-    (branch (eqb kind tokenKind) (contentOf s) (readToken s) (refused OtherKind) (λ e. short-token s) (length-refusal (refusalNumber OtherKind)))
+    (branch (eqb kind tokenKind) (contentOf s) (readToken s) (unreadAs OtherKind) (λ e. short-token s) (length-refusal (frameRefusalNumber OtherKind)))
 
 pub line-short : (s : List ℕ) → length (lineOf s) ≤ longestLine
 unfolding lineOf readOf
-line-short s = branch (lengthExact s) (contentOf s) (byKind (wordAt 2 s kindAt) (readMessage s) (readToken s) (refused OtherKind)) (refused WrongLength) (λ e. short-kind s) (length-refusal (refusalNumber WrongLength))
+line-short s = branch (lengthExact s) (contentOf s) (byKind (wordAt 2 s kindAt) (readMessage s) (readToken s) (unreadAs OtherKind)) (unreadAs WrongLength) (λ e. short-kind s) (length-refusal (frameRefusalNumber WrongLength))

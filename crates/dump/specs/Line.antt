@@ -4,7 +4,7 @@ use mathlib.Core.List.{List, [], _∷_, _++_}
 use lib.ListN.{take}
 use Rattle.frames.specs.Message.{configuration, contentOf}
 use Rattle.frames.specs.Read.{readOf}
-use Rattle.frames.specs.Refusal.{refusalNumber}
+use Rattle.frames.specs.Refusal.{frameRefusalNumber}
 use Rattle.frames.specs.declared.header.Header.{Header}
 use Rattle.frames.specs.declared.message.Message.{Message}
 use Rattle.frames.specs.declared.token.Token.{Token}
@@ -72,7 +72,7 @@ unfoldable pub refusalLine : ℕ → List ℕ
 refusalLine number = field (ascii "no ") number ++ ascii "\n"
 
 abbrev pub answerLine : Answer → Token → List ℕ → List ℕ
-answerLine (Refused why) t content = refusalLine (refusalNumber why)
+answerLine (Refused why) t content = refusalLine (frameRefusalNumber why)
 answerLine (IsMessage m) t content = messageLine m content
 answerLine IsToken t content = tokenLine t
 

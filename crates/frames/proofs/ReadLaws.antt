@@ -12,7 +12,7 @@ use Rattle.frames.specs.Layout.{kindAt, headerSize, messageKind, configu
 use Rattle.frames.specs.Header.{ownSize, framedSize}
 use Rattle.frames.specs.Message.{configuration, messageOf, contentOf, messageFollows}
 use Rattle.frames.specs.Token.{requestCount, tokenOf, tokenFollows}
-use Rattle.frames.specs.Read.{answerNumber, refused, aMessage, aToken, lengthExact, messageReads, tokenReads, readMessage, readToken, byKind, readOf, readNumber}
+use Rattle.frames.specs.Read.{answerNumber, unreadAs, aMessage, aToken, lengthExact, messageReads, tokenReads, readMessage, readToken, byKind, readOf, readNumber}
 use Rattle.frames.specs.declared.reader.Reading.{Reading}
 use Rattle.frames.specs.declared.message.Message.{Message}
 use Rattle.frames.specs.declared.token.Token.{Token}
@@ -22,11 +22,11 @@ use Rattle.frames.proofs.Sizes.{framed-own}
 -- ---- question 12 of a message
 
 module _ (s : List ℕ) where
-  pub message-short : length s < contentAt → refused Malformed ≡ readMessage s
+  pub message-short : length s < contentAt → unreadAs Malformed ≡ readMessage s
   unfolding readMessage
   message-short h = simp (lt-leb _ _ h)
 
-  pub message-configured : contentAt ≤ length s → (wordAt 4 s configurationAt ≡ configuration → ⊥) → refused Malformed ≡ readMessage s
+  pub message-configured : contentAt ≤ length s → (wordAt 4 s configurationAt ≡ configuration → ⊥) → unreadAs Malformed ≡ readMessage s
   unfolding readMessage
   message-configured h ne = simp (le-leb _ _ h, ne-eqb _ _ ne)
 
@@ -34,7 +34,7 @@ module _ (s : List ℕ) (m : Message) (content : List ℕ) (follows : Bool) (lon
   the-test : follows ≡ messageFollows (messageOf s) (contentOf s)
   the-test = rw (← values, ← rest) tested
 
-  pub message-wrong : follows ≡ false → refused Malformed ≡ readMessage s
+  pub message-wrong : follows ≡ false → unreadAs Malformed ≡ readMessage s
   unfolding readMessage
   message-wrong bad = simp (le-leb _ _ long, eq-eqb _ _ zero-there, sym the-test ∙ bad)
 
@@ -45,20 +45,20 @@ module _ (s : List ℕ) (m : Message) (content : List ℕ) (follows : Bool) (lon
 -- ---- question 12 of a token
 
 module _ (s : List ℕ) where
-  pub token-short : length s < requestsAt → refused Malformed ≡ readToken s
+  pub token-short : length s < requestsAt → unreadAs Malformed ≡ readToken s
   unfolding readToken
   token-short h = simp (lt-leb _ _ h)
 
-  pub token-crowded : requestsAt ≤ length s → mostRequests < requestCount s → refused Malformed ≡ readToken s
+  pub token-crowded : requestsAt ≤ length s → mostRequests < requestCount s → unreadAs Malformed ≡ readToken s
   unfolding readToken
   token-crowded h many = simp (le-leb _ _ h, lt-leb _ _ many)
 
-  pub token-missized : requestsAt ≤ length s → requestCount s ≤ mostRequests → (length s ≡ tokenSize (requestCount s) → ⊥) → refused Malformed ≡ readToken s
+  pub token-missized : requestsAt ≤ length s → requestCount s ≤ mostRequests → (length s ≡ tokenSize (requestCount s) → ⊥) → unreadAs Malformed ≡ readToken s
   unfolding readToken
   token-missized h few ne = simp (le-leb _ _ h, le-leb _ _ few, ne-eqb _ _ ne)
 
 module _ (s : List ℕ) (t : Token) (follows : Bool) (long : requestsAt ≤ length s) (few : requestCount s ≤ mostRequests) (size : length s ≡ tokenSize (requestCount s)) (values : t ≡ tokenOf s) (tested : follows ≡ tokenFollows t) where
-  pub token-wrong : follows ≡ false → refused Malformed ≡ readToken s
+  pub token-wrong : follows ≡ false → unreadAs Malformed ≡ readToken s
   unfolding readToken
   token-wrong bad = simp (le-leb _ _ long, le-leb _ _ few, eq-eqb _ _ size, ap tokenFollows (sym values) ∙ sym tested ∙ bad)
 
@@ -69,11 +69,11 @@ module _ (s : List ℕ) (t : Token) (follows : Bool) (long : requestsAt ≤ leng
 -- ---- questions 10 and 11
 
 module _ (s : List ℕ) where
-  pub read-short : length s < headerSize → refused WrongLength ≡ readOf s
+  pub read-short : length s < headerSize → unreadAs WrongLength ≡ readOf s
   unfolding readOf
   read-short h = simp (lt-leb _ _ h)
 
-  pub read-inexact : (size : ℕ) → headerSize ≤ length s → size ≡ framedSize s → (length s ≡ size → ⊥) → refused WrongLength ≡ readOf s
+  pub read-inexact : (size : ℕ) → headerSize ≤ length s → size ≡ framedSize s → (length s ≡ size → ⊥) → unreadAs WrongLength ≡ readOf s
   unfolding readOf
   read-inexact size h e ne = simp (le-leb _ _ h, ne-eqb (length s) (ownSize s) (λ f. ne (f ∙ sym (e ∙ framed-own s (omega arith)))))
 
@@ -89,7 +89,7 @@ module _ (s : List ℕ) where
     unfolding readOf
     read-as-token k = simp (k, le-leb _ _ long, eq-eqb _ _ exact)
 
-    pub read-other : (wordAt 2 s kindAt ≡ messageKind → ⊥) → (wordAt 2 s kindAt ≡ tokenKind → ⊥) → refused OtherKind ≡ readOf s
+    pub read-other : (wordAt 2 s kindAt ≡ messageKind → ⊥) → (wordAt 2 s kindAt ≡ tokenKind → ⊥) → unreadAs OtherKind ≡ readOf s
     unfolding readOf
     read-other k l = simp (le-leb _ _ long, eq-eqb _ _ exact, ne-eqb _ _ k, ne-eqb _ _ l)
 
@@ -112,10 +112,10 @@ read-numbered : (s : List ℕ) → answerNumber (readOf s .answer) ≡ readNumbe
 unfolding readOf readNumber readMessage readToken
 read-numbered s =
     let kind = wordAt 2 s kindAt in
-    let message = numbered-cond (messageReads s) (aMessage (messageOf s)) (refused Malformed) 0 12 refl refl in
-    let token = numbered-cond (tokenReads s) (aToken (tokenOf s)) (refused Malformed) 0 12 refl refl in
-    let by-kind = kind-numbered (eqb kind messageKind) (eqb kind tokenKind) (readMessage s) (readToken s) (refused OtherKind) _ _ 11 message token refl in
-    numbered-cond (lengthExact s) (byKind kind (readMessage s) (readToken s) (refused OtherKind)) (refused WrongLength) _ 10 by-kind refl
+    let message = numbered-cond (messageReads s) (aMessage (messageOf s)) (unreadAs Malformed) 0 12 refl refl in
+    let token = numbered-cond (tokenReads s) (aToken (tokenOf s)) (unreadAs Malformed) 0 12 refl refl in
+    let by-kind = kind-numbered (eqb kind messageKind) (eqb kind tokenKind) (readMessage s) (readToken s) (unreadAs OtherKind) _ _ 11 message token refl in
+    numbered-cond (lengthExact s) (byKind kind (readMessage s) (readToken s) (unreadAs OtherKind)) (unreadAs WrongLength) _ 10 by-kind refl
 
 -- so what reads as the definition says answers its number
 pub read-as : (s : List ℕ) (r : Reading) → r ≡ readOf s → (r ≡ readOf s) × (answerNumber (r .answer) ≡ readNumber s)

@@ -16,7 +16,7 @@ use Rattle.frames.specs.Layout.{lengthAt, lengthSize, kindAt, ringAt, re
 use Rattle.frames.specs.Header.{ownSize, headerOf, headerBytes}
 use Rattle.frames.specs.Message.{configuration, messageOf, contentOf, messageFollows, messageFixed, messageBytes}
 use Rattle.frames.specs.Token.{blockerOf, blockerId, requestCount, requestsOf, tokenOf, tokenFollows, tokenFixed, tokenBytes}
-use Rattle.frames.specs.Read.{refused, aMessage, aToken, lengthExact, messageReads, tokenReads, readMessage, readToken, byKind, readOf}
+use Rattle.frames.specs.Read.{unreadAs, aMessage, aToken, lengthExact, messageReads, tokenReads, readMessage, readToken, byKind, readOf}
 use Rattle.frames.specs.RoundTrip.{MessageRewritten, TokenRewritten}
 use Rattle.frames.specs.declared.refusal.Refusal.{Refusal}
 use Rattle.frames.specs.declared.refusal.Refusal.the-variants.{WrongLength, OtherKind, Malformed}
@@ -54,13 +54,13 @@ pub message-not-token : (m : Message) (t : Token) → aMessage m ≡ aToken t �
 unfolding which
 message-not-token m t e = omega (arith, apart (aMessage m) (aToken t) e)
 
-pub unread-not-message : (why : Refusal) (m : Message) → refused why ≡ aMessage m → ⊥
+pub unread-not-message : (why : Refusal) (m : Message) → unreadAs why ≡ aMessage m → ⊥
 unfolding which
-unread-not-message why m e = omega (arith, apart (refused why) (aMessage m) e)
+unread-not-message why m e = omega (arith, apart (unreadAs why) (aMessage m) e)
 
-pub unread-not-token : (why : Refusal) (t : Token) → refused why ≡ aToken t → ⊥
+pub unread-not-token : (why : Refusal) (t : Token) → unreadAs why ≡ aToken t → ⊥
 unfolding which
-unread-not-token why t e = omega (arith, apart (refused why) (aToken t) e)
+unread-not-token why t e = omega (arith, apart (unreadAs why) (aToken t) e)
 
 -- as long as its length field says
 pub record Exact (s : List ℕ) : Type 0 where
@@ -77,12 +77,12 @@ exact-facts s e =
 -- the way in, for whatever is read but a refusal
 record Entered (s : List ℕ) (z : Reading) : Type 0 where
   exact : Exact s
-  by-kind : byKind (wordAt 2 s kindAt) (readMessage s) (readToken s) (refused OtherKind) ≡ z
+  by-kind : byKind (wordAt 2 s kindAt) (readMessage s) (readToken s) (unreadAs OtherKind) ≡ z
 
-entered : (s : List ℕ) (z : Reading) → ((why : Refusal) → refused why ≡ z → ⊥) → readOf s ≡ z → Entered s z
+entered : (s : List ℕ) (z : Reading) → ((why : Refusal) → unreadAs why ≡ z → ⊥) → readOf s ≡ z → Entered s z
 unfolding readOf
 entered s z read e =
-    let first = cond-first (lengthExact s) (byKind (wordAt 2 s kindAt) (readMessage s) (readToken s) (refused OtherKind)) (refused WrongLength) z e (read WrongLength) in
+    let first = cond-first (lengthExact s) (byKind (wordAt 2 s kindAt) (readMessage s) (readToken s) (unreadAs OtherKind)) (unreadAs WrongLength) z e (read WrongLength) in
     record { exact = exact-facts s (first .0); by-kind = first .1 }
 
 -- ---- the header
@@ -115,12 +115,12 @@ pub message-read : (s : List ℕ) (m : Message) → readOf s ≡ aMessage m → 
 unfolding readMessage readToken
 message-read s m e =
     let kind = wordAt 2 s kindAt in
-    let read : (why : Refusal) → refused why ≡ aMessage m → ⊥ = λ why. unread-not-message why m in
+    let read : (why : Refusal) → unreadAs why ≡ aMessage m → ⊥ = λ why. unread-not-message why m in
     let way = entered s (aMessage m) read e in
-    let no-token : readToken s ≡ aMessage m → ⊥ = cond-neither (tokenReads s) (aToken (tokenOf s)) (refused Malformed) (aMessage m) (λ f. message-not-token m (tokenOf s) (sym f)) (read Malformed) in
-    let no-other = cond-neither (eqb kind tokenKind) (readToken s) (refused OtherKind) (aMessage m) no-token (read OtherKind) in
-    let kinded = cond-first (eqb kind messageKind) (readMessage s) (cond (eqb kind tokenKind) (readToken s) (refused OtherKind)) (aMessage m) (way .by-kind) no-other in
-    let reads = cond-first (messageReads s) (aMessage (messageOf s)) (refused Malformed) (aMessage m) (kinded .1) (read Malformed) in
+    let no-token : readToken s ≡ aMessage m → ⊥ = cond-neither (tokenReads s) (aToken (tokenOf s)) (unreadAs Malformed) (aMessage m) (λ f. message-not-token m (tokenOf s) (sym f)) (read Malformed) in
+    let no-other = cond-neither (eqb kind tokenKind) (readToken s) (unreadAs OtherKind) (aMessage m) no-token (read OtherKind) in
+    let kinded = cond-first (eqb kind messageKind) (readMessage s) (cond (eqb kind tokenKind) (readToken s) (unreadAs OtherKind)) (aMessage m) (way .by-kind) no-other in
+    let reads = cond-first (messageReads s) (aMessage (messageOf s)) (unreadAs Malformed) (aMessage m) (kinded .1) (read Malformed) in
     let answer : IsMessage (messageOf s) ≡ IsMessage m = ap (λ (r : Reading). r .answer) (reads .1) in
     record {
       exact = way .exact;
@@ -166,12 +166,12 @@ pub token-read : (s : List ℕ) (t : Token) → readOf s ≡ aToken t → ReadsT
 unfolding readMessage readToken
 token-read s t e =
     let kind = wordAt 2 s kindAt in
-    let read : (why : Refusal) → refused why ≡ aToken t → ⊥ = λ why. unread-not-token why t in
+    let read : (why : Refusal) → unreadAs why ≡ aToken t → ⊥ = λ why. unread-not-token why t in
     let way = entered s (aToken t) read e in
-    let no-message : readMessage s ≡ aToken t → ⊥ = cond-neither (messageReads s) (aMessage (messageOf s)) (refused Malformed) (aToken t) (message-not-token (messageOf s) t) (read Malformed) in
-    let other = cond-second (eqb kind messageKind) (readMessage s) (cond (eqb kind tokenKind) (readToken s) (refused OtherKind)) (aToken t) (way .by-kind) no-message in
-    let kinded = cond-first (eqb kind tokenKind) (readToken s) (refused OtherKind) (aToken t) (other .1) (read OtherKind) in
-    let reads = cond-first (tokenReads s) (aToken (tokenOf s)) (refused Malformed) (aToken t) (kinded .1) (read Malformed) in
+    let no-message : readMessage s ≡ aToken t → ⊥ = cond-neither (messageReads s) (aMessage (messageOf s)) (unreadAs Malformed) (aToken t) (message-not-token (messageOf s) t) (read Malformed) in
+    let other = cond-second (eqb kind messageKind) (readMessage s) (cond (eqb kind tokenKind) (readToken s) (unreadAs OtherKind)) (aToken t) (way .by-kind) no-message in
+    let kinded = cond-first (eqb kind tokenKind) (readToken s) (unreadAs OtherKind) (aToken t) (other .1) (read OtherKind) in
+    let reads = cond-first (tokenReads s) (aToken (tokenOf s)) (unreadAs Malformed) (aToken t) (kinded .1) (read Malformed) in
     record {
       exact = way .exact;
       kind = eqb-true kind tokenKind (kinded .0);

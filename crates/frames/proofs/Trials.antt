@@ -8,9 +8,9 @@ use Rattle.frames.specs.Header.{headerOf, headerFollows, headerBytes}
 use Rattle.frames.specs.Message.{messageOf, messageFollows, messageFixed}
 use Rattle.frames.specs.Token.{requestsOf, requestsFollow, tokenOf, tokenFollows, tokenFixed}
 use Rattle.frames.specs.Read.{blankToken, readMessage, readToken, readOf}
-use Rattle.frames.specs.Write.{written}
-use Rattle.frames.specs.Trials.{allPass, firstToken, table}
+use Rattle.frames.specs.Write.{writingOf}
+use Rattle.frames.specs.Trials.{allPass, firstBytes, table}
 
 pub trials : allPass table ≡ true
-unfolding table firstToken wordBytes wordOf wordAt words wordsBytes every headerOf headerFollows headerBytes messageOf messageFollows messageFixed requestsOf requestsFollow tokenOf tokenFollows tokenFixed blankToken readMessage readToken readOf written
+unfolding table firstBytes wordBytes wordOf wordAt words wordsBytes every headerOf headerFollows headerBytes messageOf messageFollows messageFixed requestsOf requestsFollow tokenOf tokenFollows tokenFixed blankToken readMessage readToken readOf writingOf
 trials = refl

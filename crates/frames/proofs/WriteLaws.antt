@@ -12,7 +12,7 @@ use Rattle.words.proofs.RunLaws.{length-words-bytes}
 use Rattle.frames.specs.Layout.{contentAt, messageSize, requestsAt, tokenSize}
 use Rattle.frames.specs.Message.{messageFollows, messageFixed, messageBytes}
 use Rattle.frames.specs.Token.{tokenFollows, tokenFixed, tokenBytes}
-use Rattle.frames.specs.Write.{Outcome, outcomeOf, written, messageWritten, tokenWritten}
+use Rattle.frames.specs.Write.{WriteOutcome, writeOutcomeOf, writingOf, messageWritten, tokenWritten}
 use Rattle.frames.specs.declared.refusal.Refusal.the-variants.{NoRoom, Malformed}
 use Rattle.frames.specs.declared.writer.Written.{Written}
 use Rattle.frames.specs.declared.writer.Written.the-variants.{Size, Refused}
@@ -22,34 +22,34 @@ use Rattle.frames.proofs.RefusalLaws.{some-number, number-fixes}
 use Rattle.frames.proofs.Sizes.{message-fixed-length, token-fixed-length}
 
 module _ (follows : Bool) (frame out : List ℕ) where
-  pub write-malformed : follows ≡ false → (outcomeOf (Refused Malformed) ≡ (written follows frame out) .outcome) × (out ≡ (written follows frame out) .out)
-  unfolding written
+  pub write-malformed : follows ≡ false → (writeOutcomeOf (Refused Malformed) ≡ (writingOf follows frame out) .outcome) × (out ≡ (writingOf follows frame out) .out)
+  unfolding writingOf
   write-malformed bad = (rw bad, rw bad)
 
   pub write-roomless : (n : ℕ)
       → follows ≡ true
       → length frame ≡ n
       → length out < n
-      → (outcomeOf (Refused NoRoom) ≡ (written follows frame out) .outcome) × (out ≡ (written follows frame out) .out)
-  unfolding written
+      → (writeOutcomeOf (Refused NoRoom) ≡ (writingOf follows frame out) .outcome) × (out ≡ (writingOf follows frame out) .out)
+  unfolding writingOf
   write-roomless n ok size less = let short = lt-leb n (length out) less in (rw (ok, size, short), rw (ok, size, short))
 
-  pub write-counted : (n : ℕ) → follows ≡ true → length frame ≡ n → n ≤ length out → outcomeOf (Size n) ≡ (written follows frame out) .outcome
-  unfolding written
+  pub write-counted : (n : ℕ) → follows ≡ true → length frame ≡ n → n ≤ length out → writeOutcomeOf (Size n) ≡ (writingOf follows frame out) .outcome
+  unfolding writingOf
   write-counted n ok size room = rw (ok, size, le-leb n (length out) room)
 
-  write-taken : (n : ℕ) (out′ : List ℕ) → follows ≡ true → Stored out 0 frame n out′ → n ≤ length out → out′ ≡ (written follows frame out) .out
-  unfolding written
+  write-taken : (n : ℕ) (out′ : List ℕ) → follows ≡ true → Stored out 0 frame n out′ → n ≤ length out → out′ ≡ (writingOf follows frame out) .out
+  unfolding writingOf
   write-taken n out′ ok stored room =
       let fits = le-leb n (length out) room in
       rw (ok, stored .size, fits) (stored .is ∙ front-stored n frame out (stored .size) room)
 
 -- the outcome fixes the answer
-pub outcome-fixes : (a b : Written) → outcomeOf a ≡ outcomeOf b → a ≡ b
-outcome-fixes (Size m) (Size n) e = ap Size (ap (λ (o : Outcome). o .count) e)
-outcome-fixes (Size m) (Refused why) e = absurd (some-number why (sym (ap (λ (o : Outcome). o .number) e)))
-outcome-fixes (Refused why) (Size n) e = absurd (some-number why (ap (λ (o : Outcome). o .number) e))
-outcome-fixes (Refused why) (Refused other) e = ap Refused (number-fixes why other (ap (λ (o : Outcome). o .number) e))
+pub outcome-fixes : (a b : Written) → writeOutcomeOf a ≡ writeOutcomeOf b → a ≡ b
+outcome-fixes (Size m) (Size n) e = ap Size (ap (λ (o : WriteOutcome). o .count) e)
+outcome-fixes (Size m) (Refused why) e = absurd (some-number why (sym (ap (λ (o : WriteOutcome). o .number) e)))
+outcome-fixes (Refused why) (Size n) e = absurd (some-number why (ap (λ (o : WriteOutcome). o .number) e))
+outcome-fixes (Refused why) (Refused other) e = ap Refused (number-fixes why other (ap (λ (o : WriteOutcome). o .number) e))
 
 -- the fixed part and then the rest, stored at the front
 

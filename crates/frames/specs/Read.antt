@@ -6,7 +6,7 @@ use lib.ListN.{length, replicate}
 use lib.Dec.{leb, eqb}
 use Rattle.words.specs.Word.{wordAt}
 use Rattle.frames.specs.Layout.{kindAt, headerSize, configurationAt, contentAt, messageKind, requestsAt, mostRequests, tokenKind, tokenSize}
-use Rattle.frames.specs.Refusal.{refusalNumber}
+use Rattle.frames.specs.Refusal.{frameRefusalNumber}
 use Rattle.frames.specs.Header.{ownSize}
 use Rattle.frames.specs.Message.{configuration, messageOf, contentOf, messageFollows}
 use Rattle.frames.specs.Token.{requestCount, tokenOf, tokenFollows}
@@ -23,7 +23,7 @@ use Rattle.frames.specs.declared.reader.Answer.the-variants.{Refused, Is
 
 -- the number that document 01 gives to an answer: 0 where nothing is refused
 abbrev pub answerNumber : Answer → ℕ
-answerNumber (Refused why) = refusalNumber why
+answerNumber (Refused why) = frameRefusalNumber why
 answerNumber (IsMessage m) = 0
 answerNumber IsToken = 0
 
@@ -41,8 +41,8 @@ blankToken =
       requests = replicate mostRequests 0;
     }
 
-abbrev pub refused : Refusal → Reading
-refused why = record { answer = Refused why; token = blankToken }
+abbrev pub unreadAs : Refusal → Reading
+unreadAs why = record { answer = Refused why; token = blankToken }
 
 abbrev pub aMessage : Message → Reading
 aMessage m = record { answer = IsMessage m; token = blankToken }
@@ -72,10 +72,10 @@ tokenReads s =
     && tokenFollows (tokenOf s)
 
 unfoldable pub readMessage : List ℕ → Reading
-readMessage s = cond (messageReads s) (aMessage (messageOf s)) (refused Malformed)
+readMessage s = cond (messageReads s) (aMessage (messageOf s)) (unreadAs Malformed)
 
 unfoldable pub readToken : List ℕ → Reading
-readToken s = cond (tokenReads s) (aToken (tokenOf s)) (refused Malformed)
+readToken s = cond (tokenReads s) (aToken (tokenOf s)) (unreadAs Malformed)
 
 -- 11. Is the kind 1 or 2? The one place that goes by the kind: what holds of a message, of a token, of any other
 abbrev pub byKind : {A : Type 0} → ℕ → A → A → A → A
@@ -85,8 +85,8 @@ byKind kind message token other = cond (eqb kind messageKind) message (cond (eqb
 unfoldable pub readOf : List ℕ → Reading
 readOf s =
     cond (lengthExact s)
-    (byKind (wordAt 2 s kindAt) (readMessage s) (readToken s) (refused OtherKind))
-    (refused WrongLength)
+    (byKind (wordAt 2 s kindAt) (readMessage s) (readToken s) (unreadAs OtherKind))
+    (unreadAs WrongLength)
 
 -- the same in document 01's numbers: the first question that is answered 'no', or 0
 unfoldable pub readNumber : List ℕ → ℕ

@@ -3,8 +3,8 @@ use Prim.Native.Nat.{ℕ}
 use Rattle.frames.specs.declared.refusal.Refusal.{Refusal}
 use Rattle.frames.specs.declared.refusal.Refusal.the-variants.{NoRoom, WrongLength, OtherKind, Malformed}
 
-abbrev pub refusalNumber : Refusal → ℕ
-refusalNumber NoRoom = 1
-refusalNumber WrongLength = 10
-refusalNumber OtherKind = 11
-refusalNumber Malformed = 12
+abbrev pub frameRefusalNumber : Refusal → ℕ
+frameRefusalNumber NoRoom = 1
+frameRefusalNumber WrongLength = 10
+frameRefusalNumber OtherKind = 11
+frameRefusalNumber Malformed = 12

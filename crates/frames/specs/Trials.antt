@@ -88,15 +88,15 @@ from1to zero = []
 from1to (suc n) = from1to n ++ (suc n ∷ [])
 
 -- the first token of ring 4 with members 3 and 7, in hexadecimal as document 01 has it
-unfoldable pub firstToken : List ℕ
-firstToken =
+unfoldable pub firstBytes : List ℕ
+firstBytes =
     0x1C ∷ 0x00 ∷ 0x02 ∷ 0x00 ∷ 0x04 ∷ 0x00 ∷ 0x00 ∷ 0x00 ∷ 0x03 ∷ 0x00 ∷ 0x03 ∷ 0x00 ∷ 0x01 ∷ 0x00 ∷ 0x00 ∷ 0x00 ∷ replicate 14 0x00
 
 -- ---- the table
 
 unfoldable pub table : List Trial
 table =
-    are (tokenBytes (sampleToken 0 0 Nobody 0 [])) firstToken
+    are (tokenBytes (sampleToken 0 0 Nobody 0 [])) firstBytes
     -- messages
     ∷ message (sampleMessage 1 0) [] 0 22  -- no content
     ∷ message (sampleMessage 1 1) (replicate 64 111) 0 86  -- 64 bytes
@@ -131,18 +131,18 @@ table =
     ∷ writes (tokenWritten (sampleToken 0 0 Nobody 0 []) (replicate 29 0)) 1  -- one byte short
     ∷ writes (tokenWritten (sampleToken 0 1 Nobody 0 []) []) 12  -- 12 goes before 1
     -- any bytes
-    ∷ reads firstToken 0
+    ∷ reads firstBytes 0
     ∷ reads [] 10
     ∷ reads (0x07 ∷ replicate 8 0x00) 10  -- under 10 bytes, though its length is exact
-    ∷ reads (take 29 firstToken) 10  -- a byte short
-    ∷ reads (firstToken ++ (0x00 ∷ [])) 10  -- a byte too many
+    ∷ reads (take 29 firstBytes) 10  -- a byte short
+    ∷ reads (firstBytes ++ (0x00 ∷ [])) 10  -- a byte too many
     -- one byte of the first token, or of a message with no content, set to another
-    ∷ reads (set firstToken 0 0x1D) 10  -- the length field
-    ∷ reads (set firstToken 2 0x03) 11  -- the kind
-    ∷ reads (set firstToken 4 0x00) 12  -- ring number 0
-    ∷ reads (set firstToken 8 0x00) 12  -- representative 0
-    ∷ reads (set firstToken 10 0x00) 12  -- addressee 0
-    ∷ reads (set firstToken 12 0x00) 12  -- token number 0
+    ∷ reads (set firstBytes 0 0x1D) 10  -- the length field
+    ∷ reads (set firstBytes 2 0x03) 11  -- the kind
+    ∷ reads (set firstBytes 4 0x00) 12  -- ring number 0
+    ∷ reads (set firstBytes 8 0x00) 12  -- representative 0
+    ∷ reads (set firstBytes 10 0x00) 12  -- addressee 0
+    ∷ reads (set firstBytes 12 0x00) 12  -- token number 0
     ∷ reads (set (messageBytes (sampleMessage 1 0) []) 10 0x00) 12  -- sender 0
     ∷ reads (set (messageBytes (sampleMessage 1 0) []) 19 0x01) 12  -- configuration not zero
     -- headers alone

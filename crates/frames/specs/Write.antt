@@ -4,7 +4,7 @@ use mathlib.Core.Bool.{Bool, cond}
 use mathlib.Core.List.{List, _++_}
 use lib.ListN.{length, drop}
 use lib.Dec.{leb}
-use Rattle.frames.specs.Refusal.{refusalNumber}
+use Rattle.frames.specs.Refusal.{frameRefusalNumber}
 use Rattle.frames.specs.Message.{messageFollows, messageBytes}
 use Rattle.frames.specs.Token.{tokenFollows, tokenBytes}
 use Rattle.frames.specs.declared.writer.Written.{Written}
@@ -13,22 +13,22 @@ use Rattle.frames.specs.declared.message.Message.{Message}
 use Rattle.frames.specs.declared.token.Token.{Token}
 
 -- an answer in document 01's terms: the question that is answered 'no', or 0, and how many bytes were written
-pub record Outcome : Type 0 where
+pub record WriteOutcome : Type 0 where
   pub number : ℕ
   pub count : ℕ
 
-abbrev pub outcomeOf : Written → Outcome
-outcomeOf (Size n) = record { number = 0; count = n }
-outcomeOf (Refused why) = record { number = refusalNumber why; count = 0 }
+abbrev pub writeOutcomeOf : Written → WriteOutcome
+writeOutcomeOf (Size n) = record { number = 0; count = n }
+writeOutcomeOf (Refused why) = record { number = frameRefusalNumber why; count = 0 }
 
 -- the outcome, and the whole buffer afterwards
 pub record Writing : Type 0 where
-  pub outcome : Outcome
+  pub outcome : WriteOutcome
   pub out : List ℕ
 
 -- the frame's bytes, followed by what stood after them; a refusal leaves every byte as it was
-unfoldable pub written : Bool → List ℕ → List ℕ → Writing
-written follows frame out =
+unfoldable pub writingOf : Bool → List ℕ → List ℕ → Writing
+writingOf follows frame out =
     cond follows
     (cond (leb (length frame) (length out))
     (record { outcome = record { number = 0; count = length frame }; out = frame ++ drop (length frame) out })
@@ -36,7 +36,7 @@ written follows frame out =
     (record { outcome = record { number = 12; count = 0 }; out = out })
 
 abbrev pub messageWritten : Message → List ℕ → List ℕ → Writing
-messageWritten m content out = written (messageFollows m content) (messageBytes m content) out
+messageWritten m content out = writingOf (messageFollows m content) (messageBytes m content) out
 
 abbrev pub tokenWritten : Token → List ℕ → Writing
-tokenWritten t out = written (tokenFollows t) (tokenBytes t) out
+tokenWritten t out = writingOf (tokenFollows t) (tokenBytes t) out

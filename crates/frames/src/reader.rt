@@ -1,6 +1,6 @@
 // The reader.
 ghost use mathlib.Core.Path.{_≡_};
-ghost use Rattle.frames.specs.Read.{readOf, readNumber, readMessage, readToken, blankToken, refused, answerNumber};
+ghost use Rattle.frames.specs.Read.{readOf, readNumber, readMessage, readToken, blankToken, unreadAs, answerNumber};
 use crate::header;
 use crate::header::Header;
 use crate::layout;
@@ -48,7 +48,7 @@ fn blank_token() -> Token
 }
 
 fn refuse(why: Refusal) -> Reading
-    ensures { λ r. ⌜ r ≡ refused why ⌝ }
+    ensures { λ r. ⌜ r ≡ unreadAs why ⌝ }
 {
     Reading {
         answer: Answer::Refused(why),

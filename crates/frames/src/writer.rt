@@ -7,7 +7,7 @@ ghost use lib.Seq.{sets};
 ghost use Rattle.frames.specs.Layout.{mostFramed, contentAt, messageSize, requestsAt, tokenSize, mostRequests};
 ghost use Rattle.frames.specs.Message.{messageFollows, messageFixed};
 ghost use Rattle.frames.specs.Token.{tokenFollows, tokenFixed};
-ghost use Rattle.frames.specs.Write.{outcomeOf, messageWritten, tokenWritten};
+ghost use Rattle.frames.specs.Write.{writeOutcomeOf, messageWritten, tokenWritten};
 use crate::header;
 use crate::layout;
 use crate::message;
@@ -47,7 +47,7 @@ pub fn put_message(m: Message, content: &[u8], out: &mut [u8])
 // Writes a message frame to the front of `out`. Ruled out: a malformed one written; a buffer one byte short
 // taken.
 pub fn write_message(m: Message, content: &[u8], out: &mut [u8]) -> Written
-    ensures { λ r. ⌜ outcomeOf r ≡ (messageWritten m (now (content .entry)) (now (out .entry))) .outcome ⌝ }
+    ensures { λ r. ⌜ writeOutcomeOf r ≡ (messageWritten m (now (content .entry)) (now (out .entry))) .outcome ⌝ }
     ensures { λ _. ⌜ now (out .exit) ≡ (messageWritten m (now (content .entry)) (now (out .entry))) .out ⌝ }
 {
     if !message::message_follows(m, content) {
@@ -97,7 +97,7 @@ pub fn put_token(t: Token, out: &mut [u8])
 // Writes a token frame to the front of `out`. Ruled out: a malformed one written; a refusal that has written
 // the header already.
 pub fn write_token(t: Token, out: &mut [u8]) -> Written
-    ensures { λ r. ⌜ outcomeOf r ≡ (tokenWritten t (now (out .entry))) .outcome ⌝ }
+    ensures { λ r. ⌜ writeOutcomeOf r ≡ (tokenWritten t (now (out .entry))) .outcome ⌝ }
     ensures { λ _. ⌜ now (out .exit) ≡ (tokenWritten t (now (out .entry))) .out ⌝ }
 {
     if !token::token_follows(t) {

@@ -16,7 +16,7 @@ use Rattle.record.specs.Members.{foundable}
 use Rattle.record.specs.Fresh.{freshHeld, membersPlaced, freshLog, freshTurn, freshPosts, fresh}
 use Rattle.record.specs.Ring.{ids as idsOf}
 use Rattle.record.specs.declared.log.Log.{Log}
-use Rattle.record.specs.Whole.{heldInRange, numbersInRange, logInRange, turnInRange, postsInRange, inRange, sendersAreMembers, leaveIsGood, marksInOrder, arusReached, heldToLevel, nextNotHeld, contentsPadded, freePlacesZero, logUnusedZero, postsUnusedZero, unusedZero, whole}
+use Rattle.record.specs.Whole.{heldInRange, numbersInRange, logInRange, turnInRange, postsInRange, inRange, sendersAreMembers, resendPasses, marksInOrder, arusReached, heldToLevel, nextNotHeld, contentsPadded, freePlacesZero, logUnusedZero, postsUnusedZero, unusedZero, whole}
 use Rattle.record.proofs.MemberLaws.{FoundableFacts, foundable-facts, own-most}
 use Rattle.record.proofs.ListLaws.{most-zeros, all-within}
 
@@ -76,8 +76,8 @@ module _ (ids : List ℕ) (own ring : ℕ) where
   unfolding sendersAreMembers fresh freshLog freshHeld every
   fresh-senders = refl
 
-  fresh-leave : leaveIsGood (log .ring .0) (idsOf log) (fresh ids own ring .turn) ≡ true
-  unfolding leaveIsGood fresh freshTurn
+  fresh-leave : resendPasses (log .ring .0) (idsOf log) (fresh ids own ring .turn) ≡ true
+  unfolding resendPasses fresh freshTurn
   fresh-leave = refl
 
   fresh-founded : foundable ids own ring ≡ true → foundable (idsOf log) (fresh ids own ring .own) (log .ring .0) ≡ true

@@ -9,7 +9,7 @@ use Rattle.words.specs.Run.{words}
 use Rattle.words.proofs.ScanLaws.{to-end}
 use Rattle.frames.specs.Layout.{longestToken}
 use Rattle.record.specs.Size.{mostMembers, mostHeld, mostPosts, heldContents}
-use Rattle.record.specs.Layout.{ownAt, logAt, turnAt, postsAt, ringAt, memberCountAt, membersAt, levelAt, safeAt, deliveredAt, heldMessagesAt, sendersAt, heldServicesAt, heldLengthsAt, heldContentsAt, aruAt, earlierAt, tokenNumberAt, broadcastAt, stallAt, tokenSizeAt, tokenAt, postCountAt, postServicesAt, postLengthsAt, postContentsAt}
+use Rattle.record.specs.Layout.{ownAt, logAt, turnAt, postsAt, logRingAt, memberCountAt, membersAt, levelAt, safeAt, deliveredAt, heldMessagesAt, sendersAt, heldServicesAt, heldLengthsAt, heldContentsAt, turnAruAt, earlierAt, turnNumberAt, broadcastAt, stallAt, tokenSizeAt, tokenAt, postCountAt, postServicesAt, postLengthsAt, postContentsAt}
 use Rattle.record.specs.Bytes.{bytesAt, heldOf, logOf, turnOf, postsOf, recordOf}
 use Rattle.record.specs.Head.{logOn, postsOn, recordOn, contentsIn, waitingIn}
 use Rattle.record.specs.declared.head.LogHead.{LogHead}
@@ -22,7 +22,7 @@ abbrev toEnd : List ℕ → ℕ → List ℕ
 toEnd s at = take (length s - at) (drop at s)
 
 pub log-read : (s : List ℕ) (ring count : ℕ) (members : List ℕ) (level safe delivered : ℕ) (senders services lengths : List ℕ)
-    → ring ≡ wordAt 4 s ringAt
+    → ring ≡ wordAt 4 s logRingAt
     → count ≡ wordAt 1 s memberCountAt
     → members ≡ words 2 mostMembers (drop membersAt s) ++ []
     → level ≡ wordAt 4 s levelAt
@@ -42,9 +42,9 @@ log-read s ring count members level safe delivered senders services lengths e₁
     rw (e₁, e₂, e₃, e₄, e₅, e₆, senders-there, services-there, lengths-there, contents-there) (simp append-nil)
 
 pub turn-read : (s : List ℕ) (aru earlier number broadcast stall size : ℕ) (token : List ℕ)
-    → aru ≡ wordAt 4 s aruAt
+    → aru ≡ wordAt 4 s turnAruAt
     → earlier ≡ wordAt 4 s earlierAt
-    → number ≡ wordAt 4 s tokenNumberAt
+    → number ≡ wordAt 4 s turnNumberAt
     → broadcast ≡ wordAt 1 s broadcastAt
     → stall ≡ wordAt 1 s stallAt
     → size ≡ wordAt 1 s tokenSizeAt

@@ -16,7 +16,7 @@ use Rattle.frames.proofs.Facts.{part}
 use Rattle.record.specs.Size.{leastMembers, mostMembers}
 use Rattle.record.specs.Members.{isMember, representative, idsFollow, foundable}
 use Rattle.record.specs.Ring.{thisRing, tokenMembers, isToken, tokenPasses}
-use Rattle.record.specs.Whole.{leaveIsGood}
+use Rattle.record.specs.Whole.{resendPasses}
 use Rattle.record.specs.declared.turn.Turn.{Turn}
 
 -- ---- no ids
@@ -80,14 +80,14 @@ unfolding tokenPasses
 passes-joined ring members frame reading kind this known read e₁ e₂ e₃ = rw (e₁, e₂, e₃, read)
 
 module _ (ring : ℕ) (members : List ℕ) (t : Turn) where
-  pub leave-none : t .size ≡ 0 → true ≡ leaveIsGood ring members t
-  unfolding leaveIsGood
+  pub leave-none : t .size ≡ 0 → true ≡ resendPasses ring members t
+  unfolding resendPasses
   leave-none e = simp (eq-eqb _ _ e)
 
   -- the remembered token, as the code spells it
   pub leave-some : (passes : Bool)
       → (t .size ≡ 0 → ⊥)
       → passes ≡ tokenPasses ring members (take (t .size - 0) (t .token))
-      → passes ≡ leaveIsGood ring members t
-  unfolding leaveIsGood
+      → passes ≡ resendPasses ring members t
+  unfolding resendPasses
   leave-some passes some e = simp (ne-eqb _ _ some) (rw sub-zero at e)

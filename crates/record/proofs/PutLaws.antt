@@ -11,7 +11,7 @@ use Rattle.words.proofs.StoreLaws.{Stored, stored-none, stored-next, front-stor
 use Rattle.words.proofs.WordLaws.{stored-word}
 use Rattle.frames.specs.Layout.{longestToken}
 use Rattle.record.specs.Size.{mostMembers, mostHeld, mostPosts, heldContents, postContents}
-use Rattle.record.specs.Layout.{ownAt, logAt, turnAt, postsAt, recordSize, ringAt, memberCountAt, membersAt, levelAt, safeAt, deliveredAt, heldMessagesAt, logSize, sendersAt, heldServicesAt, heldLengthsAt, heldContentsAt, aruAt, earlierAt, tokenNumberAt, broadcastAt, stallAt, tokenSizeAt, tokenAt, turnSize, postCountAt, postServicesAt, postLengthsAt, postContentsAt, postsSize}
+use Rattle.record.specs.Layout.{ownAt, logAt, turnAt, postsAt, recordSize, logRingAt, memberCountAt, membersAt, levelAt, safeAt, deliveredAt, heldMessagesAt, logSize, sendersAt, heldServicesAt, heldLengthsAt, heldContentsAt, turnAruAt, earlierAt, turnNumberAt, broadcastAt, stallAt, tokenSizeAt, tokenAt, turnSize, postCountAt, postServicesAt, postLengthsAt, postContentsAt, postsSize}
 use Rattle.record.specs.Bytes.{bytesAt, heldBytes, logBytes, turnBytes, postsBytes, recordBytes}
 use Rattle.record.specs.Head.{logOn, postsOn, recordOn, contentsIn, waitingIn}
 use Rattle.record.specs.declared.head.LogHead.{LogHead}
@@ -58,7 +58,7 @@ places-stored x at l l₁ l₂ l₃ a e₁ e₂ e₃ =
 pub log-stored : (x : LogHead) (at : ℕ) (l l₁ l₂ l₃ l₄ l₅ l₆ l₇ : List ℕ)
     → HeadArrays x
     → at + logSize ≤ length l
-    → l₁ ≡ sets l (at + ringAt) (wordBytes 4 (x .ring .0))
+    → l₁ ≡ sets l (at + logRingAt) (wordBytes 4 (x .ring .0))
     → l₂ ≡ sets l₁ (at + memberCountAt) (wordBytes 1 (x .count))
     → l₃ ≡ sets l₂ (at + membersAt) (wordsBytes 2 (x .members))
     → l₄ ≡ sets l₃ (at + levelAt) (wordBytes 4 (x .level .0))
@@ -83,9 +83,9 @@ log-stored x at l l₁ l₂ l₃ l₄ l₅ l₆ l₇ a room e₁ e₂ e₃ e₄ 
     rw (← spot) (w₈ .is ∙ ap (sets l at) (append-assoc front places (bytesAt heldContents l (at + (heldMessagesAt + heldContentsAt)))))
 
 pub turn-stored : (t : Turn) (at : ℕ) (l l₁ l₂ l₃ l₄ l₅ l₆ l₇ : List ℕ)
-    → l₁ ≡ sets l (at + aruAt) (wordBytes 4 (t .aru .0))
+    → l₁ ≡ sets l (at + turnAruAt) (wordBytes 4 (t .aru .0))
     → l₂ ≡ sets l₁ (at + earlierAt) (wordBytes 4 (t .earlier .0))
-    → l₃ ≡ sets l₂ (at + tokenNumberAt) (wordBytes 4 (t .number .0))
+    → l₃ ≡ sets l₂ (at + turnNumberAt) (wordBytes 4 (t .number .0))
     → l₄ ≡ sets l₃ (at + broadcastAt) (wordBytes 1 (t .broadcast))
     → l₅ ≡ sets l₄ (at + stallAt) (wordBytes 1 (t .stall))
     → l₆ ≡ sets l₅ (at + tokenSizeAt) (wordBytes 1 (t .size))

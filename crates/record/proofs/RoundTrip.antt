@@ -11,7 +11,7 @@ use Rattle.words.proofs.WordLaws.{bytes-drop, length-word, word-back, word-spli
 use Rattle.words.proofs.RunLaws.{words-there, words-back}
 use Rattle.frames.specs.Layout.{longestToken}
 use Rattle.record.specs.Size.{mostMembers, mostHeld, mostPosts, heldContents, postContents}
-use Rattle.record.specs.Layout.{ownAt, logAt, turnAt, postsAt, recordSize, ringAt, memberCountAt, membersAt, levelAt, safeAt, deliveredAt, heldMessagesAt, logSize, sendersAt, heldServicesAt, heldLengthsAt, heldContentsAt, heldSize, aruAt, earlierAt, tokenNumberAt, broadcastAt, stallAt, tokenSizeAt, tokenAt, turnSize, postCountAt, postServicesAt, postLengthsAt, postContentsAt, postsSize}
+use Rattle.record.specs.Layout.{ownAt, logAt, turnAt, postsAt, recordSize, logRingAt, memberCountAt, membersAt, levelAt, safeAt, deliveredAt, heldMessagesAt, logSize, sendersAt, heldServicesAt, heldLengthsAt, heldContentsAt, heldSize, turnAruAt, earlierAt, turnNumberAt, broadcastAt, stallAt, tokenSizeAt, tokenAt, turnSize, postCountAt, postServicesAt, postLengthsAt, postContentsAt, postsSize}
 use Rattle.record.specs.Bytes.{bytesAt, heldBytes, heldOf, logBytes, logOf, turnBytes, turnOf, postsBytes, postsOf, recordBytes, recordOf}
 use Rattle.record.specs.Head.{withPosts}
 use Rattle.record.specs.RoundTrip.{BytesRestored, RecordRestored}
@@ -48,7 +48,7 @@ held-there s b h =
 log-there : (s : List ℕ) → Bytes s → logSize ≤ length s → logBytes (logOf s) ++ drop logSize s ≡ s
 unfolding logBytes logOf
 log-there s b h =
-    let w₁ = word-split 4 s ringAt b (omega arith) in
+    let w₁ = word-split 4 s logRingAt b (omega arith) in
     let w₂ = word-split 1 s memberCountAt b (omega arith) in
     let w₃ = words-split 2 mostMembers s membersAt b (omega arith) in
     let w₄ = word-split 4 s levelAt b (omega arith) in
@@ -60,9 +60,9 @@ log-there s b h =
 turn-there : (s : List ℕ) → Bytes s → turnSize ≤ length s → turnBytes (turnOf s) ++ drop turnSize s ≡ s
 unfolding turnBytes turnOf
 turn-there s b h =
-    let w₁ = word-split 4 s aruAt b (omega arith) in
+    let w₁ = word-split 4 s turnAruAt b (omega arith) in
     let w₂ = word-split 4 s earlierAt b (omega arith) in
-    let w₃ = word-split 4 s tokenNumberAt b (omega arith) in
+    let w₃ = word-split 4 s turnNumberAt b (omega arith) in
     let w₄ = word-split 1 s broadcastAt b (omega arith) in
     let w₅ = word-split 1 s stallAt b (omega arith) in
     let w₆ = word-split 1 s tokenSizeAt b (omega arith) in
@@ -156,7 +156,7 @@ log-back : (l : Log) (s rest : List ℕ) → LogFits l → s ≡ logBytes l ++ r
 unfolding logBytes logOf
 log-back l s rest fits e =
     let marks = wordBytes 4 (l .level .0) ∷ wordBytes 4 (l .safe .0) ∷ wordBytes 4 (l .delivered .0) ∷ heldBytes (l .held) ∷ [] in
-    let all : Left s ringAt (wordBytes 4 (l .ring .0) ∷ wordBytes 1 (l .count) ∷ wordsBytes 2 (l .members) ∷ marks) rest = record { is = e ∙ simp append-assoc } in
+    let all : Left s logRingAt (wordBytes 4 (l .ring .0) ∷ wordBytes 1 (l .count) ∷ wordsBytes 2 (l .members) ∷ marks) rest = record { is = e ∙ simp append-assoc } in
     let f₁ = word-first 4 (l .ring .0) all (fits .ring) in
     let f₂ = word-first 1 (l .count) (f₁ .1) (fits .count) in
     let f₃ = words-first 2 mostMembers (l .members) (f₂ .1) (fits .places) (fits .members) in
@@ -170,7 +170,7 @@ turn-back : (t : Turn) (s rest : List ℕ) → TurnFits t → s ≡ turnBytes t 
 unfolding turnBytes turnOf
 turn-back t s rest fits e =
     let after = wordBytes 1 (t .broadcast) ∷ wordBytes 1 (t .stall) ∷ wordBytes 1 (t .size) ∷ t .token ∷ [] in
-    let all : Left s aruAt (wordBytes 4 (t .aru .0) ∷ wordBytes 4 (t .earlier .0) ∷ wordBytes 4 (t .number .0) ∷ after) rest = record { is = e ∙ simp append-assoc } in
+    let all : Left s turnAruAt (wordBytes 4 (t .aru .0) ∷ wordBytes 4 (t .earlier .0) ∷ wordBytes 4 (t .number .0) ∷ after) rest = record { is = e ∙ simp append-assoc } in
     let f₁ = word-first 4 (t .aru .0) all (fits .aru) in
     let f₂ = word-first 4 (t .earlier .0) (f₁ .1) (fits .earlier) in
     let f₃ = word-first 4 (t .number .0) (f₂ .1) (fits .number) in

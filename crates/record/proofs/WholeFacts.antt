@@ -15,7 +15,7 @@ use Rattle.record.specs.Size.{mostMembers, mostBroadcasts, mostStall}
 use Rattle.record.specs.Held.{holds}
 use Rattle.record.specs.Members.{foundable}
 use Rattle.record.specs.Ring.{ids}
-use Rattle.record.specs.Whole.{logInRange, turnInRange, postsInRange, inRange, sendersAreMembers, leaveIsGood, marksInOrder, arusReached, heldToLevel, nextNotHeld, contentsPadded, freePlacesZero, logUnusedZero, postsUnusedZero, unusedZero, whole}
+use Rattle.record.specs.Whole.{logInRange, turnInRange, postsInRange, inRange, sendersAreMembers, resendPasses, marksInOrder, arusReached, heldToLevel, nextNotHeld, contentsPadded, freePlacesZero, logUnusedZero, postsUnusedZero, unusedZero, whole}
 use Rattle.record.specs.declared.log.Log.{Log}
 use Rattle.record.specs.declared.turn.Turn.{Turn}
 use Rattle.record.specs.declared.Record.{Record}
@@ -52,7 +52,7 @@ pub record TurnGood (ring : ℕ) (members : List ℕ) (level : ℕ) (t : Turn) :
   pub range : TurnRange t
   pub aru : t .aru .0 ≤ level
   pub earlier : t .earlier .0 ≤ level
-  pub leave : leaveIsGood ring members t ≡ true
+  pub leave : resendPasses ring members t ≡ true
   pub rest : allZero (drop (t .size) (t .token)) ≡ true
 
 pub record RecordGood (r : Record) : Type 0 where
@@ -148,7 +148,7 @@ arus-reached t level a e = rw (le-leb (t .aru .0) level a, le-leb (t .earlier .0
 turn-good : (ring : ℕ) (members : List ℕ) (level : ℕ) (t : Turn)
     → TurnRange t
     → arusReached t level ≡ true
-    → leaveIsGood ring members t ≡ true
+    → resendPasses ring members t ≡ true
     → allZero (drop (t .size) (t .token)) ≡ true
     → TurnGood ring members level t
 unfolding arusReached
@@ -200,7 +200,7 @@ module _ (r : Record) where
             turn-good (l .ring .0) (ids l) (l .level .0) t
             (turn-range t (range .1))
             (part e (λ (f : arusReached t (l .level .0) ≡ false). simp (f, and-false)))
-            (part e (λ (f : leaveIsGood (l .ring .0) (ids l) t ≡ false). simp (f, and-false)))
+            (part e (λ (f : resendPasses (l .ring .0) (ids l) t ≡ false). simp (f, and-false)))
             (unused .2);
         founded = part e (λ (f : foundable (ids l) (r .own) (l .ring .0) ≡ false). simp (f, and-false));
         posts = range .2;

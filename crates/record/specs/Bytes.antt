@@ -7,7 +7,7 @@ use Rattle.words.specs.Word.{wordAt, wordBytes}
 use Rattle.words.specs.Run.{words, wordsBytes}
 use Rattle.frames.specs.Layout.{longestToken}
 use Rattle.record.specs.Size.{mostMembers, mostHeld, mostPosts, heldContents, postContents}
-use Rattle.record.specs.Layout.{ownAt, logAt, turnAt, postsAt, ringAt, memberCountAt, membersAt, levelAt, safeAt, deliveredAt, heldMessagesAt, sendersAt, heldServicesAt, heldLengthsAt, heldContentsAt, aruAt, earlierAt, tokenNumberAt, broadcastAt, stallAt, tokenSizeAt, tokenAt, postCountAt, postServicesAt, postLengthsAt, postContentsAt}
+use Rattle.record.specs.Layout.{ownAt, logAt, turnAt, postsAt, logRingAt, memberCountAt, membersAt, levelAt, safeAt, deliveredAt, heldMessagesAt, sendersAt, heldServicesAt, heldLengthsAt, heldContentsAt, turnAruAt, earlierAt, turnNumberAt, broadcastAt, stallAt, tokenSizeAt, tokenAt, postCountAt, postServicesAt, postLengthsAt, postContentsAt}
 use Rattle.record.specs.declared.log.Held.{Held}
 use Rattle.record.specs.declared.log.Log.{Log}
 use Rattle.record.specs.declared.turn.Turn.{Turn}
@@ -47,7 +47,7 @@ logBytes l =
 unfoldable pub logOf : List ℕ → Log
 logOf s =
     record {
-      ring = record { 0 = wordAt 4 s ringAt };
+      ring = record { 0 = wordAt 4 s logRingAt };
       count = wordAt 1 s memberCountAt;
       members = words 2 mostMembers (drop membersAt s);
       level = record { 0 = wordAt 4 s levelAt };
@@ -71,9 +71,9 @@ turnBytes t =
 unfoldable pub turnOf : List ℕ → Turn
 turnOf s =
     record {
-      aru = record { 0 = wordAt 4 s aruAt };
+      aru = record { 0 = wordAt 4 s turnAruAt };
       earlier = record { 0 = wordAt 4 s earlierAt };
-      number = record { 0 = wordAt 4 s tokenNumberAt };
+      number = record { 0 = wordAt 4 s turnNumberAt };
       broadcast = wordAt 1 s broadcastAt;
       stall = wordAt 1 s stallAt;
       size = wordAt 1 s tokenSizeAt;

@@ -48,8 +48,8 @@ unfoldable pub heldAt : Log → ℕ → Option Entry
 heldAt l number = cond (holds l number) (some (entryAt (l .held) (placeOf number))) none
 
 -- the messages that these arrays hold
-abbrev pub heldOf : List ℕ → List ℕ → List ℕ → List ℕ → Held
-heldOf senders services lengths contents = record { senders = senders; services = services; lengths = lengths; contents = contents }
+abbrev pub heldFrom : List ℕ → List ℕ → List ℕ → List ℕ → Held
+heldFrom senders services lengths contents = record { senders = senders; services = services; lengths = lengths; contents = contents }
 
 -- ---- a message is held under a number
 

@@ -23,8 +23,8 @@ heldSize = heldContentsAt + heldContents
 
 -- ---- the log
 
-abbrev pub ringAt : ℕ
-ringAt = 0
+abbrev pub logRingAt : ℕ
+logRingAt = 0
 
 abbrev pub memberCountAt : ℕ
 memberCountAt = 4
@@ -49,14 +49,14 @@ logSize = heldMessagesAt + heldSize
 
 -- ---- the turn
 
-abbrev pub aruAt : ℕ
-aruAt = 0
+abbrev pub turnAruAt : ℕ
+turnAruAt = 0
 
 abbrev pub earlierAt : ℕ
 earlierAt = 4
 
-abbrev pub tokenNumberAt : ℕ
-tokenNumberAt = 8
+abbrev pub turnNumberAt : ℕ
+turnNumberAt = 8
 
 abbrev pub broadcastAt : ℕ
 broadcastAt = 12

@@ -7,8 +7,8 @@ use lib.Dec.{eqb}
 use Rattle.record.specs.declared.turn.Turn.{Turn}
 
 -- may the token be resent?
-abbrev pub hasLeave : Turn → Bool
-hasLeave t = not (eqb (t .size) 0)
+abbrev pub mayResend : Turn → Bool
+mayResend t = not (eqb (t .size) 0)
 
 -- the remembered token's frame
 abbrev pub remembered : Turn → List ℕ

@@ -12,7 +12,7 @@ use Rattle.record.specs.Size.{mostMembers, mostHeld, mostPosts, mostBroa
 use Rattle.record.specs.Count.{everyFrom}
 use Rattle.record.specs.Contents.{padding}
 use Rattle.record.specs.Held.{placeOf, inUse, holds}
-use Rattle.record.specs.Turn.{hasLeave, remembered}
+use Rattle.record.specs.Turn.{mayResend, remembered}
 use Rattle.record.specs.Members.{isMember, foundable}
 use Rattle.record.specs.Ring.{current, ids, tokenPasses}
 use Rattle.record.specs.declared.log.Held.{Held}
@@ -76,8 +76,8 @@ sendersAreMembers members = every (λ x after. eqb x 0 || isMember members x)
 
 -- ---- a token that may be resent is of kind 2 and passes 10 to 14
 
-unfoldable pub leaveIsGood : ℕ → List ℕ → Turn → Bool
-leaveIsGood ring members t = not (hasLeave t) || tokenPasses ring members (remembered t)
+unfoldable pub resendPasses : ℕ → List ℕ → Turn → Bool
+resendPasses ring members t = not (mayResend t) || tokenPasses ring members (remembered t)
 
 -- ---- founding questions 3 to 6 hold: `foundable`
 
@@ -124,7 +124,7 @@ unfoldable pub whole : Record → Bool
 whole r =
     inRange r
     && sendersAreMembers (ids (current r)) (current r .held .senders)
-    && leaveIsGood (current r .ring .0) (ids (current r)) (r .turn)
+    && resendPasses (current r .ring .0) (ids (current r)) (r .turn)
     && foundable (ids (current r)) (r .own) (current r .ring .0)
     && marksInOrder (current r)
     && arusReached (r .turn) (current r .level .0)

@@ -10,7 +10,7 @@ ghost use Rattle.frames.specs.Number.{mostNumber};
 ghost use Rattle.frames.specs.Layout.{mostContent};
 ghost use Rattle.record.specs.Size.{mostHeld, heldContents};
 ghost use Rattle.record.specs.Head.{logOn};
-ghost use Rattle.record.specs.Held.{placeOf, heldOf, heldWith, stored, clearedFrom, letGo};
+ghost use Rattle.record.specs.Held.{placeOf, heldFrom, heldWith, stored, clearedFrom, letGo};
 use crate::head;
 use crate::head::LogHead;
 use crate::size;
@@ -60,9 +60,9 @@ pub fn place_message(
 )
     requires { ⌜ (length (now content) ≤ mostContent) × (length (now contents) ≡ heldContents) ⌝ }
     ensures { λ _. ⌜
-        heldOf (now (senders .exit)) (now (services .exit)) (now (lengths .exit)) (now (contents .exit))
+        heldFrom (now (senders .exit)) (now (services .exit)) (now (lengths .exit)) (now (contents .exit))
         ≡ heldWith
-        (heldOf (now (senders .entry)) (now (services .entry)) (now (lengths .entry)) (now (contents .entry)))
+        (heldFrom (now (senders .entry)) (now (services .entry)) (now (lengths .entry)) (now (contents .entry)))
         (placeOf (n .0))
         (record { sender = sender; service = service; content = now (content .entry) }) ⌝ }
 {
@@ -115,9 +115,9 @@ fn clear_from(
 )
     requires { ⌜ (first + n ≤ 4000000000) × (length (now contents) ≡ heldContents) ⌝ }
     ensures { λ _. ⌜
-        heldOf (now (senders .exit)) (now (services .exit)) (now (lengths .exit)) (now (contents .exit))
+        heldFrom (now (senders .exit)) (now (services .exit)) (now (lengths .exit)) (now (contents .exit))
         ≡ clearedFrom
-        (heldOf (now (senders .entry)) (now (services .entry)) (now (lengths .entry)) (now (contents .entry)))
+        (heldFrom (now (senders .entry)) (now (services .entry)) (now (lengths .entry)) (now (contents .entry)))
         first n ⌝ }
 {
     let mut i = 0;

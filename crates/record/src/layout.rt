@@ -13,7 +13,7 @@ const HELD_CONTENTS_AT: usize = 160;
 const HELD_SIZE: usize = HELD_CONTENTS_AT + size::HELD_CONTENTS;
 
 // The log, its held messages last.
-pub const RING_AT: usize = 0;
+pub const LOG_RING_AT: usize = 0;
 
 pub const MEMBER_COUNT_AT: usize = 4;
 
@@ -30,11 +30,11 @@ pub const HELD_AT: usize = 33;
 const LOG_SIZE: usize = HELD_AT + HELD_SIZE;
 
 // The turn.
-pub const ARU_AT: usize = 0;
+pub const TURN_ARU_AT: usize = 0;
 
 pub const EARLIER_AT: usize = 4;
 
-pub const TOKEN_NUMBER_AT: usize = 8;
+pub const TURN_NUMBER_AT: usize = 8;
 
 pub const BROADCAST_AT: usize = 12;
 

@@ -42,7 +42,7 @@ pub fn get_log_head(s: &[u8]) -> LogHead
         &mut lengths,
     );
     LogHead {
-        ring: RingNumber(words::get_u32(s, layout::RING_AT)),
+        ring: RingNumber(words::get_u32(s, layout::LOG_RING_AT)),
         count: words::get_u8(s, layout::MEMBER_COUNT_AT),
         members,
         level: MessageNumber(words::get_u32(s, layout::LEVEL_AT)),
@@ -75,7 +75,7 @@ pub fn put_log_head(out: &mut [u8], at: usize, l: LogHead)
         now (out .exit) ≡ sets (now (out .entry)) at (logBytes (logOn l (contentsIn (now (out .entry)) at))) ⌝ }
 {
     let members = l.members;
-    words::put_u32(out, at + layout::RING_AT, l.ring.0);
+    words::put_u32(out, at + layout::LOG_RING_AT, l.ring.0);
     words::put_u8(out, at + layout::MEMBER_COUNT_AT, l.count);
     words::put_u16s(out, at + layout::MEMBERS_AT, &members);
     words::put_u32(out, at + layout::LEVEL_AT, l.level.0);

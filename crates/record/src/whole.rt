@@ -11,7 +11,7 @@ ghost use Rattle.record.specs.Size.{mostMembers, heldContents, postConte
 ghost use Rattle.record.specs.Head.{logOn, recordOn};
 ghost use Rattle.record.specs.Members.{foundable};
 ghost use Rattle.record.specs.Ring.{ids};
-ghost use Rattle.record.specs.Whole.{sendersAreMembers, leaveIsGood, marksInOrder, arusReached, heldToLevel, nextNotHeld, whole};
+ghost use Rattle.record.specs.Whole.{sendersAreMembers, resendPasses, marksInOrder, arusReached, heldToLevel, nextNotHeld, whole};
 use crate::Record;
 use crate::head;
 use crate::head::Head;
@@ -61,9 +61,9 @@ fn senders_are_members(ids: &[u16], senders: [u16; size::MOST_HELD]) -> bool
     words::all_zero_u16(&left)
 }
 
-fn leave_is_good(ring: RingNumber, ids: &[u16], t: Turn) -> bool
+fn resend_passes(ring: RingNumber, ids: &[u16], t: Turn) -> bool
     requires { ⌜ t .size ≤ longestToken ⌝ }
-    ensures { λ r. ⌜ r ≡ leaveIsGood (ring .0) (now (ids .entry)) t ⌝ }
+    ensures { λ r. ⌜ r ≡ resendPasses (ring .0) (now (ids .entry)) t ⌝ }
 {
     if t.size == 0 {
         return true;
@@ -89,7 +89,7 @@ fn held_to_level(l: LogHead, contents: &[u8]) -> bool
     ensures { λ r. ⌜ r ≡ heldToLevel (logOn l (now (contents .entry))) ⌝ }
 {
     let senders = l.senders;
-    let many = words::less(l.level.0, l.safe.0);
+    let many = words::saturating_sub(l.level.0, l.safe.0);
     if (size::MOST_HELD as u32) < many {
         return false;
     }
@@ -115,7 +115,7 @@ fn members_agree(h: Head, contents: &[u8]) -> bool
     requires { ⌜ (h .log .count ≤ mostMembers) × (h .turn .size ≤ longestToken) ⌝ }
     ensures { λ b. ⌜ b ≡
         (sendersAreMembers (ids (logOn (h .log) (now (contents .entry)))) (h .log .senders)
-        && leaveIsGood (h .log .ring .0) (ids (logOn (h .log) (now (contents .entry)))) (h .turn)
+        && resendPasses (h .log .ring .0) (ids (logOn (h .log) (now (contents .entry)))) (h .turn)
         && foundable (ids (logOn (h .log) (now (contents .entry)))) (h .own) (h .log .ring .0)) ⌝ }
 {
     let members = h.log.members;
@@ -124,7 +124,7 @@ fn members_agree(h: Head, contents: &[u8]) -> bool
     let ids = &members[0..n];
     let ring = h.log.ring;
     senders_are_members(ids, senders)
-        & leave_is_good(ring, ids, h.turn)
+        & resend_passes(ring, ids, h.turn)
         & members::foundable_by(ids, h.own, ring)
 }
 

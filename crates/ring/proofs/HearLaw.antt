@@ -6,7 +6,7 @@ use mathlib.Core.List.{List, [], map}
 use mathlib.Core.Option.{none, some}
 use lib.ListN.{length, length-map}
 use Rattle.frames.specs.Message.{contentOf}
-use Rattle.frames.specs.Read.{readOf, refused as unreadAs, aMessage, aToken}
+use Rattle.frames.specs.Read.{readOf, unreadAs, aMessage, aToken}
 use Rattle.frames.specs.declared.message.Message.{Message}
 use Rattle.frames.specs.declared.refusal.Refusal.{Refusal as Unread}
 use Rattle.frames.specs.declared.token.Token.{Token}
@@ -16,7 +16,7 @@ use Rattle.record.specs.declared.turn.Turn.{Turn}
 use Rattle.record.specs.declared.Record.{Record}
 use Rattle.record.proofs.WholeFacts.{whole-good}
 use Rattle.station.specs.Deliver.{ringHeader, due, handedOut, delivered}
-use Rattle.station.specs.Message.{heardAs, leaveEnded, logWithMessage, messageHeard}
+use Rattle.station.specs.Message.{heardAs, resendEnded, logWithMessage, messageHeard}
 use Rattle.station.specs.Arrive.{arrived}
 use Rattle.station.specs.Within.{framesIn}
 use Rattle.station.specs.Visit.{accepted}
@@ -38,9 +38,9 @@ use Rattle.ring.proofs.QuietLaw.{sight-refused}
 use Rattle.ring.proofs.FrameLaws.{same-itself, frame-message, handed-seen, message-not-token, unread-not-message, unread-not-token}
 use Rattle.ring.proofs.HeardLog.{After, heard-log, same-header}
 
-leave-ended : (t : Turn) → leaveOf (leaveEnded t) ≡ none
-unfolding leaveOf leaveEnded
-leave-ended t = refl
+resend-ended : (t : Turn) → leaveOf (resendEnded t) ≡ none
+unfolding leaveOf resendEnded
+resend-ended t = refl
 
 -- ---- the same from equal parts
 
@@ -90,7 +90,7 @@ module _ (r : Record) (place : ℕ) (frame a b : List ℕ) (m : Message) (read :
   counted = sym (ap length handed ∙ length-map (due l (l .safe .0)) (messageHeld l))
 
   heard-station : stationSeen (messageHeard r m (contentOf frame) .rec) ≡ abstract.heard (stationSeen r) x
-  unfolding stationSeen messageHeard delivered leaveEnded abstract.heard
+  unfolding stationSeen messageHeard delivered resendEnded abstract.heard
   heard-station =
       station-same _ _ _ _ _ _ _ _ _ _ _ _ _ _ _ _ _ _
       (ap (λ (k : Log). ids k) (onward .rest))
@@ -100,7 +100,7 @@ module _ (r : Record) (place : ℕ) (frame a b : List ℕ) (m : Message) (read :
       (marks-alike delivered-same counted)
       refl
       refl
-      (leave-ended (r .turn))
+      (resend-ended (r .turn))
       (store-delivered l (l .safe .0) ∙ after .store)
 
   heard-kept : cond (saidKept (messageHeard r m (contentOf frame) .answer)) (some x) none ≡ cond (abstract.keeps (stationSeen r) x) (some x) none

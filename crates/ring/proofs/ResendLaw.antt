@@ -9,16 +9,16 @@ use lib.ListN.{length}
 use lib.Dec.{leb}
 use Rattle.frames.specs.Read.{readOf}
 use Rattle.frames.proofs.Facts.{part}
-use Rattle.record.specs.Turn.{hasLeave, remembered}
+use Rattle.record.specs.Turn.{mayResend, remembered}
 use Rattle.record.specs.Ring.{current, ids, tokenPasses, isToken}
-use Rattle.record.specs.Whole.{leaveIsGood, whole}
+use Rattle.record.specs.Whole.{resendPasses, whole}
 use Rattle.record.specs.declared.turn.Turn.{Turn}
 use Rattle.record.specs.declared.Record.{Record}
 use Rattle.station.specs.Reply.{Reply, mostFrames}
 use Rattle.station.specs.Resend.{resent}
 use Rattle.station.specs.Deliver.{ringHeader}
 use Rattle.station.specs.Within.{framesIn}
-use Rattle.station.specs.declared.refusal.Refusal.the-variants.{NoRoom, NotWhole, NoLeave}
+use Rattle.station.specs.declared.refusal.Refusal.the-variants.{NoRoom, NotWhole, NothingToResend}
 use Rattle.station.specs.declared.answer.Answer.the-variants.{Resent}
 use Rattle.ordering.specs.Run as ordered
 use Rattle.ring.specs.Calls.{Call, resending, placeOf}
@@ -35,14 +35,14 @@ passes-token : (ring : ℕ) (members frame : List ℕ) → tokenPasses ring memb
 unfolding tokenPasses
 passes-token ring members frame e = part e (λ (f : isToken (readOf frame .answer) ≡ false). rw f)
 
-pub leave-reads : (r : Record) → whole r ≡ true → hasLeave (r .turn) ≡ true → isToken (readOf (remembered (r .turn)) .answer) ≡ true
-unfolding whole leaveIsGood
+pub leave-reads : (r : Record) → whole r ≡ true → mayResend (r .turn) ≡ true → isToken (readOf (remembered (r .turn)) .answer) ≡ true
+unfolding whole resendPasses
 leave-reads r w leave =
-    let good : (not (hasLeave (r .turn)) || tokenPasses (current r .ring .0) (ids (current r)) (remembered (r .turn))) ≡ true =
-    part w (λ (f : leaveIsGood (current r .ring .0) (ids (current r)) (r .turn) ≡ false). simp (f, and-false)) in
+    let good : (not (mayResend (r .turn)) || tokenPasses (current r .ring .0) (ids (current r)) (remembered (r .turn))) ≡ true =
+    part w (λ (f : resendPasses (current r .ring .0) (ids (current r)) (r .turn) ≡ false). simp (f, and-false)) in
     passes-token (current r .ring .0) (ids (current r)) (remembered (r .turn)) (rw leave at good)
 
-pub leave-is : (t : Turn) → hasLeave t ≡ true → leaveOf t ≡ some (tokenIn (remembered t))
+pub leave-is : (t : Turn) → mayResend t ≡ true → leaveOf t ≡ some (tokenIn (remembered t))
 unfolding leaveOf
 leave-is t e = rw e
 
@@ -51,7 +51,7 @@ leave-is t e = rw e
 abbrev Taken : Record → Reply
 Taken r = record { answer = Resent (r .turn .size); rec = r; frames = remembered (r .turn); deliveries = [] }
 
-module _ (r : Record) (place : ℕ) (frames : List ℕ) (w : whole r ≡ true) (leave : hasLeave (r .turn) ≡ true) where
+module _ (r : Record) (place : ℕ) (frames : List ℕ) (w : whole r ≡ true) (leave : mayResend (r .turn) ≡ true) where
   reads : isToken (readOf (remembered (r .turn)) .answer) ≡ true
   reads = leave-reads r w leave
 
@@ -87,7 +87,7 @@ resends r place frames =
     let c = resending place frames in
     asked (Resends r c) r (leb mostFrames (length frames)) NoRoom _ (inl (quiet-refused r c NoRoom)) (λ room.
     asked (Resends r c) r (whole r) NotWhole _ (inl (quiet-refused r c NotWhole)) (λ w.
-    asked (Resends r c) r (hasLeave (r .turn)) NoLeave _ (inl (quiet-refused r c NoLeave)) (λ leave.
+    asked (Resends r c) r (mayResend (r .turn)) NothingToResend _ (inl (quiet-refused r c NothingToResend)) (λ leave.
     inr (seen-taken r place frames w leave))))
 
 pub sight-resend : (r : Record) (place : ℕ) (frames : List ℕ) → Sight r (resending place frames)

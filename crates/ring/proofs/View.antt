@@ -12,7 +12,7 @@ use Rattle.frames.specs.declared.token.Token.{Token}
 use Rattle.frames.specs.declared.reader.Answer.{Answer}
 use Rattle.frames.specs.declared.reader.Answer.the-variants.{Refused, IsMessage, IsToken}
 use Rattle.record.specs.Held.{Entry, heldAt}
-use Rattle.record.specs.Turn.{hasLeave, remembered}
+use Rattle.record.specs.Turn.{mayResend, remembered}
 use Rattle.record.specs.Ring.{current, ids}
 use Rattle.record.specs.declared.log.Log.{Log}
 use Rattle.record.specs.declared.turn.Turn.{Turn}
@@ -77,7 +77,7 @@ unfoldable pub storeOf : Log → Store
 storeOf l n = messageAt l n (heldAt l n)
 
 unfoldable pub leaveOf : Turn → Option seen.Token
-leaveOf t = cond (hasLeave t) (some (tokenIn (remembered t))) none
+leaveOf t = cond (mayResend t) (some (tokenIn (remembered t))) none
 
 unfoldable pub stationSeen : Record → Station
 stationSeen r =

@@ -14,7 +14,7 @@ use Rattle.record.specs.Size.{mostHeld}
 use Rattle.record.specs.Held.{letGo}
 use Rattle.record.proofs.HeldLaws.{held-sizes}
 use Rattle.station.specs.Deliver.{due, delivered}
-use Rattle.station.specs.Visit.{Visit, log, own, repeats, newCount, news, highest′, logNow, level′, ownOrNobody, setsAru, aru′, blocker′, safe′, token′, log′}
+use Rattle.station.specs.Visit.{Visit, log, own, repeats, newCount, newNumbers, highest′, logNow, level′, ownOrNobody, setsAru, aru′, blocker′, safe′, token′, log′}
 use Rattle.station.specs.EveryArrival.{Acceptable}
 use Rattle.station.proofs.LevelLaws.{raised-level}
 use Rattle.station.proofs.LogSteps.{level-window}
@@ -34,7 +34,7 @@ abbrev pub chosen : Visit → Choice
 chosen v =
     record {
       repeats = map (messageHeld (log v)) (repeats v);
-      news = map (messageHeld (logNow v)) (news v);
+      news = map (messageHeld (logNow v)) (newNumbers v);
       text = tokenBytes (token′ v);
     }
 
@@ -64,8 +64,8 @@ module _ (v : Visit) (ok : Acceptable v) (frame : List ℕ) where
       ∙ sym (raised-level (withNew v ok))
 
   pub new-count : length (chosen v .news) ≡ newCount v
-  unfolding news
-  new-count = length-map (news v) (messageHeld (logNow v)) ∙ after-length (v .token .highest .0) (newCount v)
+  unfolding newNumbers
+  new-count = length-map (newNumbers v) (messageHeld (logNow v)) ∙ after-length (v .token .highest .0) (newCount v)
 
   pub highest-after : visit.highestAfter station token (chosen v) ≡ highest′ v
   unfolding highest′

@@ -11,10 +11,10 @@ use Rattle.record.specs.Held.{holds, heldAt}
 use Rattle.record.specs.declared.log.Log.{Log}
 use Rattle.station.specs.Level.{raised}
 use Rattle.station.specs.Deliver.{ringHeader}
-use Rattle.station.specs.Visit.{Visit, log, own, newCount, numbersAfter, news, highest′, logNow}
+use Rattle.station.specs.Visit.{Visit, log, own, newCount, numbersAfter, newNumbers, highest′, logNow}
 use Rattle.station.specs.EveryArrival.{Acceptable}
-use Rattle.station.proofs.NewsLaws.{news-rest, news-below, news-above}
-use Rattle.station.proofs.VisitFacts.{newPosts, withNew, new-length, news-fit, now-new, now-ring}
+use Rattle.station.proofs.NewLaws.{new-rest, new-below, new-above}
+use Rattle.station.proofs.VisitFacts.{newPosts, withNew, new-length, new-fit, now-new, now-ring}
 use Rattle.ordering.specs.Frame as seen
 use Rattle.ordering.specs.Station.{Store, put, putAll}
 use Rattle.ring.proofs.View.{messageAt, storeOf}
@@ -64,19 +64,19 @@ raised-at l n = refl
 
 module _ (v : Visit) (ok : Acceptable v) where
   pub new-level : withNew v ok .level ≡ log v .level
-  new-level = ap (λ (l : Log). l .level) (news-rest (log v) (own v) (v .token .highest .0) (newPosts v ok))
+  new-level = ap (λ (l : Log). l .level) (new-rest (log v) (own v) (v .token .highest .0) (newPosts v ok))
 
   -- what was held stays
   below-same : (n : ℕ) → n ≤ v .token .highest .0 → heldAt (logNow v) n ≡ heldAt (log v) n
   unfolding logNow
-  below-same n low = raised-at (withNew v ok) n ∙ news-below (log v) (own v) (v .token .highest .0) (newPosts v ok) (news-fit v ok) n low
+  below-same n low = raised-at (withNew v ok) n ∙ new-below (log v) (own v) (v .token .highest .0) (newPosts v ok) (new-fit v ok) n low
 
   above-same : (n : ℕ) → v .token .highest .0 + newCount v < n → heldAt (logNow v) n ≡ heldAt (log v) n
   unfolding logNow
-  above-same n high = raised-at (withNew v ok) n ∙ news-above (log v) (own v) (v .token .highest .0) (newPosts v ok) (news-fit v ok) n (rw (new-length v ok) high)
+  above-same n high = raised-at (withNew v ok) n ∙ new-above (log v) (own v) (v .token .highest .0) (newPosts v ok) (new-fit v ok) n (rw (new-length v ok) high)
 
-  now-at : (n : ℕ) → storeOf (logNow v) n ≡ putAll (map (messageHeld (logNow v)) (news v)) (storeOf (log v)) n
-  unfolding news highest′
+  now-at : (n : ℕ) → storeOf (logNow v) n ≡ putAll (map (messageHeld (logNow v)) (newNumbers v)) (storeOf (log v)) n
+  unfolding newNumbers highest′
   now-at n =
       let highest = v .token .highest .0 in
       let f = messageHeld (logNow v) in
@@ -89,5 +89,5 @@ module _ (v : Visit) (ok : Acceptable v) where
       ]
 
   -- the new messages are put on top of what was held
-  pub store-now : storeOf (logNow v) ≡ putAll (map (messageHeld (logNow v)) (news v)) (storeOf (log v))
+  pub store-now : storeOf (logNow v) ≡ putAll (map (messageHeld (logNow v)) (newNumbers v)) (storeOf (log v))
   store-now = fun-ext now-at

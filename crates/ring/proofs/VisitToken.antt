@@ -17,7 +17,7 @@ use Rattle.frames.specs.declared.token.Token.{Token}
 use Rattle.frames.specs.declared.reader.Reading.{Reading}
 use Rattle.frames.proofs.Sizes.{token-fixed-length}
 use Rattle.record.specs.Ring.{ids}
-use Rattle.record.specs.Turn.{hasLeave, remembered}
+use Rattle.record.specs.Turn.{mayResend, remembered}
 use Rattle.station.specs.Visit.{Visit, log, own, nextIn, token′, turn′, highest′, aru′, blocker′}
 use Rattle.station.specs.EveryArrival.{Acceptable}
 use Rattle.station.proofs.TokenLaws.{token-reads}
@@ -87,7 +87,7 @@ module _ (v : Visit) (ok : Acceptable v) (frame : List ℕ) where
   unfolding turn′
   remembers = take-append-seam (tokenBytes (token′ v)) (replicate (longestToken - length (tokenBytes (token′ v))) 0)
 
-  has-leave : hasLeave (turn′ v) ≡ true
+  has-leave : mayResend (turn′ v) ≡ true
   unfolding turn′
   has-leave = rw (ne-eqb (length (tokenBytes (token′ v))) 0 (token-some (token′ v)))
 

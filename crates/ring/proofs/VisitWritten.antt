@@ -13,7 +13,7 @@ use Rattle.frames.specs.declared.header.Header.{Header}
 use Rattle.frames.specs.declared.reader.Reading.{Reading}
 use Rattle.record.specs.declared.log.Log.{Log}
 use Rattle.station.specs.Deliver.{ringHeader, frameOf}
-use Rattle.station.specs.Visit.{Visit, log, repeats, numbersAfter, newCount, news, logNow, token′, written}
+use Rattle.station.specs.Visit.{Visit, log, repeats, numbersAfter, newCount, newNumbers, logNow, token′, written}
 use Rattle.station.specs.EveryArrival.{Each, HeldReads, Acceptable}
 use Rattle.station.proofs.EachLaws.{each-append}
 use Rattle.station.proofs.VisitFacts.{new-window, now-ring}
@@ -70,7 +70,7 @@ any-last test (y ∷ xs) x e = rw (any-last test xs x e) (or-true (test y))
 
 module _ (v : Visit) (ok : Acceptable v) where
   abbrev messages : List (List ℕ)
-  messages = map (frameOf (log v)) (repeats v) ++ map (frameOf (logNow v)) (news v)
+  messages = map (frameOf (log v)) (repeats v) ++ map (frameOf (logNow v)) (newNumbers v)
 
   -- the token is written last
   written-last : written v ≡ messages ++ (tokenBytes (token′ v) ∷ [])
@@ -95,9 +95,9 @@ module _ (v : Visit) (ok : Acceptable v) where
   unfolding written
   rewrites =
       each-append Rewrites messages (tokenBytes (token′ v) ∷ [])
-      (each-append Rewrites (map (frameOf (log v)) (repeats v)) (map (frameOf (logNow v)) (news v))
+      (each-append Rewrites (map (frameOf (log v)) (repeats v)) (map (frameOf (logNow v)) (newNumbers v))
       (all-rewrite (log v) (repeats v) (visit-reads v ok .repeated))
-      (all-rewrite (logNow v) (news v) (visit-reads v ok .sent)))
+      (all-rewrite (logNow v) (newNumbers v) (visit-reads v ok .sent)))
       (token-rewrites (tokenBytes (token′ v)) token-there, tt)
 
   module _ (frame : List ℕ) where
@@ -108,15 +108,15 @@ module _ (v : Visit) (ok : Acceptable v) where
         let f = frameSeen ring in
         map-append f messages (tokenBytes (token′ v) ∷ [])
         ∙ rw (
-          map-append f (map (frameOf (log v)) (repeats v)) (map (frameOf (logNow v)) (news v)),
+          map-append f (map (frameOf (log v)) (repeats v)) (map (frameOf (logNow v)) (newNumbers v)),
           all-seen (log v) ring refl (repeats v) (visit-reads v ok .repeated),
-          all-seen (logNow v) ring (sym (now-ring v ok)) (news v) (visit-reads v ok .sent),
+          all-seen (logNow v) ring (sym (now-ring v ok)) (newNumbers v) (visit-reads v ok .sent),
           frame-token ring (tokenBytes (token′ v)) token-there,
           token-after v ok frame,
         )
 
     pub allowed : Allowed (stationSeen (v .rec)) (seenToken (v .token) frame) (chosen v)
-    unfolding stationSeen news
+    unfolding stationSeen newNumbers
     allowed =
         record {
           repeats = among-held (log v) (repeats v) (visit-reads v ok .repeated);

@@ -10,21 +10,21 @@ use Rattle.frames.specs.Header.{headerOf, headerFollows, headerBytes}
 use Rattle.frames.specs.Message.{messageOf, messageFollows, messageFixed}
 use Rattle.frames.specs.Token.{requestsOf, requestsFollow, tokenOf, tokenFollows, tokenFixed}
 use Rattle.frames.specs.Read.{blankToken, readMessage, readToken, readOf}
-use Rattle.frames.specs.Trials.{firstToken as firstBytes}
+use Rattle.frames.specs.Trials.{firstBytes}
 use Rattle.record.specs.Count.{everyFrom}
 use Rattle.record.specs.Held.{holds, heldWith, cleared, clearedFrom, letGo}
 use Rattle.record.specs.Posts.{postsFrom, queued, taken}
 use Rattle.record.specs.Members.{idsFollow, foundable}
 use Rattle.record.specs.Ring.{thisRing, tokenMembers, tokenPasses}
 use Rattle.record.specs.Fresh.{freshHeld, membersPlaced, freshLog, freshTurn, freshPosts, fresh}
-use Rattle.record.specs.Whole.{heldInRange, numbersInRange, logInRange, turnInRange, postsInRange, inRange, sendersAreMembers, leaveIsGood, marksInOrder, arusReached, heldToLevel, nextNotHeld, contentsPadded, freePlacesZero, logUnusedZero, postsUnusedZero, unusedZero, whole}
+use Rattle.record.specs.Whole.{heldInRange, numbersInRange, logInRange, turnInRange, postsInRange, inRange, sendersAreMembers, resendPasses, marksInOrder, arusReached, heldToLevel, nextNotHeld, contentsPadded, freePlacesZero, logUnusedZero, postsUnusedZero, unusedZero, whole}
 use Rattle.station.specs.Found.{firstToken, founded}
 use Rattle.station.specs.Post.{posted}
 use Rattle.station.specs.Resend.{resent}
 use Rattle.station.specs.Level.{reached, levelOf, raised}
 use Rattle.station.specs.Deliver.{frameWith, dueFrom, due, delivered}
-use Rattle.station.specs.Message.{isHad, logWithMessage, leaveEnded, messageHeard}
-use Rattle.station.specs.Visit.{others, allowance, those, requests, repeats, unanswered, newCount, withNews, numbersAfter, news, highest′, logNow, setsAru, aru′, blocker′, stall′, deaf, safe′, missing, requests′, broadcasts, round′, nextIn, token′, turn′, log′, rec′, written, accepted}
+use Rattle.station.specs.Message.{isHad, logWithMessage, resendEnded, messageHeard}
+use Rattle.station.specs.Visit.{others, allowance, those, requests, repeats, unanswered, newCount, withSent, numbersAfter, newNumbers, highest′, logNow, setsAru, aru′, blocker′, stall′, deaf, safe′, missing, requests′, broadcasts, round′, nextIn, token′, turn′, log′, rec′, written, accepted}
 use Rattle.station.specs.Arrive.{coversHeld, messageArrived, tokenArrived, arrived}
 use Rattle.station.specs.Within.{framesUpTo, framesIn}
 use Rattle.station.specs.Sample.{Trial, sendersTo, withPosts}
@@ -33,7 +33,7 @@ use Rattle.station.specs.Trials.{calling, table, allPass}
 
 -- opens all that a row computes with
 unfoldable pub opened : List Trial → Bool
-unfolding flatten wordBytes wordOf wordAt words wordsBytes every headerOf headerFollows headerBytes messageOf messageFollows messageFixed requestsOf requestsFollow tokenOf tokenFollows tokenFixed blankToken readMessage readToken readOf firstBytes everyFrom holds heldWith cleared clearedFrom letGo postsFrom queued taken idsFollow foundable thisRing tokenMembers tokenPasses freshHeld membersPlaced freshLog freshTurn freshPosts fresh heldInRange numbersInRange logInRange turnInRange postsInRange inRange sendersAreMembers leaveIsGood marksInOrder arusReached heldToLevel nextNotHeld contentsPadded freePlacesZero logUnusedZero postsUnusedZero unusedZero whole firstToken founded posted resent reached levelOf raised frameWith dueFrom due delivered isHad logWithMessage leaveEnded messageHeard others allowance those requests repeats unanswered newCount withNews numbersAfter news highest′ logNow setsAru aru′ blocker′ stall′ deaf safe′ missing requests′ broadcasts round′ nextIn token′ turn′ log′ rec′ written accepted coversHeld messageArrived tokenArrived arrived framesUpTo framesIn sendersTo withPosts allPass
+unfolding flatten wordBytes wordOf wordAt words wordsBytes every headerOf headerFollows headerBytes messageOf messageFollows messageFixed requestsOf requestsFollow tokenOf tokenFollows tokenFixed blankToken readMessage readToken readOf firstBytes everyFrom holds heldWith cleared clearedFrom letGo postsFrom queued taken idsFollow foundable thisRing tokenMembers tokenPasses freshHeld membersPlaced freshLog freshTurn freshPosts fresh heldInRange numbersInRange logInRange turnInRange postsInRange inRange sendersAreMembers resendPasses marksInOrder arusReached heldToLevel nextNotHeld contentsPadded freePlacesZero logUnusedZero postsUnusedZero unusedZero whole firstToken founded posted resent reached levelOf raised frameWith dueFrom due delivered isHad logWithMessage resendEnded messageHeard others allowance those requests repeats unanswered newCount withSent numbersAfter newNumbers highest′ logNow setsAru aru′ blocker′ stall′ deaf safe′ missing requests′ broadcasts round′ nextIn token′ turn′ log′ rec′ written accepted coversHeld messageArrived tokenArrived arrived framesUpTo framesIn sendersTo withPosts allPass
 opened rows = allPass rows
 
 calling-pass : allPass calling ≡ true

@@ -10,7 +10,7 @@ use Rattle.frames.specs.Number.{mostNumber}
 use Rattle.frames.specs.Layout.{kindAt, messageKind, tokenKind}
 use Rattle.frames.specs.Message.{messageOf, contentOf, messageFollows}
 use Rattle.frames.specs.Token.{tokenOf, tokenFollows}
-use Rattle.frames.specs.Read.{refused as unreadAs, aMessage, aToken, lengthExact, messageReads, tokenReads, readMessage, readToken, readOf}
+use Rattle.frames.specs.Read.{unreadAs, aMessage, aToken, lengthExact, messageReads, tokenReads, readMessage, readToken, readOf}
 use Rattle.frames.specs.declared.refusal.Refusal.{Refusal as Unread}
 use Rattle.frames.specs.declared.refusal.Refusal.the-variants.{WrongLength as ReadLength, OtherKind as ReadKind, Malformed as ReadLayout}
 use Rattle.frames.specs.declared.message.Message.{Message}

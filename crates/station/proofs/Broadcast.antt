@@ -19,13 +19,13 @@ use Rattle.record.proofs.WholeFacts.{LogGood}
 use Rattle.station.specs.Level.{raised}
 use Rattle.station.specs.Reply.{mostFrames}
 use Rattle.station.specs.Deliver.{ringHeader, frameOf, joined}
-use Rattle.station.specs.Visit.{Visit, log, own, posts, those, requests, repeats, unanswered, newCount, withNews, logNow, broadcasts}
+use Rattle.station.specs.Visit.{Visit, log, own, posts, those, requests, repeats, unanswered, newCount, withSent, logNow, broadcasts}
 use Rattle.station.specs.EveryArrival.{Each, Acceptable}
 use Rattle.station.specs.Steps.{listed, listIn, repeatFrames, sentOf}
-use Rattle.station.specs.declared.requests.Sifted.{Sifted}
+use Rattle.station.specs.declared.requests.Split.{Split}
 use Rattle.station.proofs.RingFacts.{ring-header}
 use Rattle.station.proofs.EachLaws.{those-pass}
-use Rattle.station.proofs.NewsLaws.{news-rest}
+use Rattle.station.proofs.NewLaws.{new-rest}
 use Rattle.station.proofs.ListedLaws.{list-of-listed, count-of-listed}
 use Rattle.station.proofs.VisitFacts.{facts, token-good, new-posts, new-numbers, few-repeats, few-broadcasts}
 
@@ -41,7 +41,7 @@ module _ (v : Visit) (a : Acceptable v) where
   few-listed : length (repeats v) ≤ mostRequests
   few-listed = omega (arith, few-repeats v, token-good v a .requests .few)
 
-  module _ (s : Sifted)
+  module _ (s : Split)
       (sifts : s ≡ record {
         held = listed (those (holds (log v)) (take (v .token .count - 0) (v .token .requests)));
         rest = listed (those (λ n. not (holds (log v) n)) (take (v .token .count - 0) (v .token .requests)));
@@ -50,43 +50,43 @@ module _ (v : Visit) (a : Acceptable v) where
     unfolding repeats unanswered requests
     sifted = sifts ∙ rw sub-zero
 
-    sifted-list : listIn (s .held) ≡ repeats v
-    sifted-list = rw sifted (list-of-listed (repeats v))
+    split-list : listIn (s .held) ≡ repeats v
+    split-list = rw sifted (list-of-listed (repeats v))
 
-    pub sifted-count : s .held .count ≡ length (repeats v)
-    sifted-count = rw sifted (count-of-listed (repeats v))
+    pub split-count : s .held .count ≡ length (repeats v)
+    split-count = rw sifted (count-of-listed (repeats v))
 
-    sifted-rest : s .rest ≡ listed (unanswered v)
-    sifted-rest = ap (λ (x : Sifted). x .rest) sifted
+    split-rest : s .rest ≡ listed (unanswered v)
+    split-rest = ap (λ (x : Split). x .rest) sifted
 
     repeats-held : Each (λ n. holds (log v) n ≡ true) (repeats v)
     unfolding repeats
     repeats-held = those-pass (holds (log v)) (requests v)
 
-    pub sifted-held : Each (λ n. holds (log v) n ≡ true) (listIn (s .held))
-    sifted-held = rw sifted-list repeats-held
+    pub split-held : Each (λ n. holds (log v) n ≡ true) (listIn (s .held))
+    split-held = rw split-list repeats-held
 
-    pub sifted-few : s .held .count ≤ mostRequests
-    sifted-few = omega (arith, sifted-count, few-listed)
+    pub split-few : s .held .count ≤ mostRequests
+    split-few = omega (arith, split-count, few-listed)
 
     -- ---- step 3
 
     module _ (n : ℕ) (counts : n ≡ newCount v) where
-      pub news-allowed : (postsInRange (posts v) ≡ true) × (n ≤ posts v .count) × (v .token .highest .0 + n ≤ mostNumber)
-      news-allowed = (facts v a .posts, omega (arith, new-posts v), omega (arith, new-numbers v, token-good v a .highest))
+      pub hold-allowed : (postsInRange (posts v) ≡ true) × (n ≤ posts v .count) × (v .token .highest .0 + n ≤ mostNumber)
+      hold-allowed = (facts v a .posts, omega (arith, new-posts v), omega (arith, new-numbers v, token-good v a .highest))
 
       pub sent-count : s .held .count + n ≡ broadcasts v
       unfolding broadcasts
-      sent-count = rw (sifted-count, counts)
+      sent-count = rw (split-count, counts)
 
       pub sent-few : s .held .count + n ≤ 16
       sent-few = omega (arith, sent-count, few-broadcasts v a)
 
-      module _ (l : LogHead) (holds-news : l ≡ headOf (withNews (log v) (own v) (v .token .highest .0) (take n (waiting (posts v))))) where
+      module _ (l : LogHead) (holds-new : l ≡ headOf (withSent (log v) (own v) (v .token .highest .0) (take n (waiting (posts v))))) where
         rest-stays : (l .safe .0 ≡ log v .safe .0) × (l .level .0 ≡ log v .level .0)
         rest-stays =
-            let rest = ap headOf (news-rest (log v) (own v) (v .token .highest .0) (take n (waiting (posts v)))) in
-            (ap (λ (x : LogHead). x .safe .0) (holds-news ∙ rest), ap (λ (x : LogHead). x .level .0) (holds-news ∙ rest))
+            let rest = ap headOf (new-rest (log v) (own v) (v .token .highest .0) (take n (waiting (posts v)))) in
+            (ap (λ (x : LogHead). x .safe .0) (holds-new ∙ rest), ap (λ (x : LogHead). x .level .0) (holds-new ∙ rest))
 
         pub level-ready : (l .safe .0 ≤ mostNumber) × (l .level .0 ≤ mostNumber)
         level-ready = let marks = facts v a .log .ready .marks in (omega (arith, rest-stays .0, safe-most), omega (arith, rest-stays .1, marks .level-most))
@@ -95,19 +95,19 @@ module _ (v : Visit) (a : Acceptable v) where
           now-is : l′ ≡ headOf (logNow v)
           unfolding logNow
           now-is =
-              let held = withNews (log v) (own v) (v .token .highest .0) (take n (waiting (posts v))) in
-              ap headOf (raises (held .held .contents)) ∙ rw (holds-news, counts)
+              let held = withSent (log v) (own v) (v .token .highest .0) (take n (waiting (posts v))) in
+              ap headOf (raises (held .held .contents)) ∙ rw (holds-new, counts)
 
           pub repeats-ready : (long : ℕ)
               → mostFrames ≤ long
               → LogGood (log v) × (headerFollows (ringHeader (log v)) ≡ true) × (s .held .count ≤ mostRequests) × Each (λ n. holds (log v) n ≡ true) (listIn (s .held)) × (longestMessage * s .held .count ≤ long)
-          repeats-ready long enough = (facts v a .log, ring-header (v .rec) (facts v a), sifted-few, sifted-held, omega (arith, sent-few))
+          repeats-ready long enough = (facts v a .log, ring-header (v .rec) (facts v a), split-few, split-held, omega (arith, sent-few))
 
           pub all-sent : (size : ℕ) (out out′ : List ℕ)
               → (size ≡ length (joined (map (frameOf (log v)) (listIn (s .held))))) × (out′ ≡ sets out 0 (joined (map (frameOf (log v)) (listIn (s .held)))))
-              → (record { log = l′; rest = s .rest; news = n; count = s .held .count + n; size = size } ≡ sentOf v)
+              → (record { log = l′; rest = s .rest; added = n; count = s .held .count + n; size = size } ≡ sentOf v)
               × (out′ ≡ sets out 0 (joined (repeatFrames v)))
           unfolding sentOf
           all-sent size out out′ e =
-              let f = rw sifted-list at e in
-              (rw (f .0, sifted-rest, sent-count, now-is, counts), f .1)
+              let f = rw split-list at e in
+              (rw (f .0, split-rest, sent-count, now-is, counts), f .1)

@@ -12,7 +12,7 @@ use Rattle.words.specs.Scan.{lacks}
 use Rattle.frames.specs.Number.{mostNumber}
 use Rattle.frames.specs.Layout.{mostRound, mostRequests, longestToken, tokenSize}
 use Rattle.frames.specs.Token.{tokenFollows, tokenBytes}
-use Rattle.frames.specs.Write.{written, tokenWritten}
+use Rattle.frames.specs.Write.{writingOf, tokenWritten}
 use Rattle.frames.specs.declared.number.MessageNumber.{MessageNumber}
 use Rattle.frames.specs.declared.header.Header.{Header}
 use Rattle.frames.specs.declared.token.Token.{Token}
@@ -85,25 +85,25 @@ module _ (v : Visit) (a : Acceptable v) where
     unfolding sentOf
     sent-rest = ap (λ (x : Sent). x .rest) sends
 
-    pub sent-news : b .news ≡ newCount v
+    pub sent-added : b .added ≡ newCount v
     unfolding sentOf
-    sent-news = ap (λ (x : Sent). x .news) sends
+    sent-added = ap (λ (x : Sent). x .added) sends
 
     pub sent-count : b .count ≡ broadcasts v
     unfolding sentOf
     sent-count = ap (λ (x : Sent). x .count) sends
 
-    sent-highest : v .token .highest .0 + b .news ≡ highest′ v
+    sent-highest : v .token .highest .0 + b .added ≡ highest′ v
     unfolding highest′
-    sent-highest = rw sent-news
+    sent-highest = rw sent-added
 
-    pub highest-fits : v .token .highest .0 + b .news ≤ mostNumber
+    pub highest-fits : v .token .highest .0 + b .added ≤ mostNumber
     highest-fits = omega (arith, sent-highest, highest-most v a)
 
     -- ---- step 4
 
     pub reached : (r : Reach) (highest : ℕ)
-        → highest ≡ v .token .highest .0 + b .news
+        → highest ≡ v .token .highest .0 + b .added
         → r ≡ reachAfter (own v) (b .log .level) (record { 0 = highest }) (v .token .aru) (v .token .blocker)
         → r ≡ reachOf v
     unfolding reachOf aru′ blocker′ setsAru
@@ -115,7 +115,7 @@ module _ (v : Visit) (a : Acceptable v) where
       pub window-fits : safe + mostHeld ≤ mostNumber + mostHeld
       window-fits = omega (arith, safe-most)
 
-      module _ (top : ℕ) (tops : top ≡ min (v .token .highest .0 + b .news) (safe + mostHeld)) where
+      module _ (top : ℕ) (tops : top ≡ min (v .token .highest .0 + b .added) (safe + mostHeld)) where
         pub missing-ready : (b .log .safe .0 ≤ mostNumber) × (top ≤ mostNumber) × (b .log .level .0 ≤ mostNumber) × (b .rest ≡ listed (listIn (b .rest))) × (b .rest .count ≤ mostRequests)
         missing-ready =
             let m = now-good v a .ready .marks in (
@@ -149,7 +149,7 @@ module _ (v : Visit) (a : Acceptable v) where
           header = header;
           addressee = addressee;
           number = record { 0 = v .token .number .0 + 1 };
-          highest = record { 0 = v .token .highest .0 + b .news };
+          highest = record { 0 = v .token .highest .0 + b .added };
           aru = r .aru;
           blocker = r .blocker;
           round = round;
@@ -183,7 +183,7 @@ module _ (v : Visit) (a : Acceptable v) where
           token = bytes;
         }
         ≡ turn′ v
-    unfolding turn′ written sentOf
+    unfolding turn′ writingOf sentOf
     turn-made bytes size count stall e f g h =
         let frame = tokenBytes (token′ v) in
         let put : bytes ≡ frame ++ replicate (longestToken - length frame) 0 =

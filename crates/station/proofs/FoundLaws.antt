@@ -12,7 +12,7 @@ use Rattle.frames.specs.Number.{mostId, isId}
 use Rattle.frames.specs.Layout.{shortestToken}
 use Rattle.frames.specs.Header.{headerFollows}
 use Rattle.frames.specs.Token.{requestsFollow, tokenFollows, tokenBytes}
-use Rattle.frames.specs.Write.{written, tokenWritten}
+use Rattle.frames.specs.Write.{writingOf, tokenWritten}
 use Rattle.frames.proofs.Facts.{part}
 use Rattle.frames.proofs.Sizes.{token-length}
 use Rattle.record.specs.Size.{leastMembers, mostMembers}
@@ -101,7 +101,7 @@ pub first-written : (ids : List ℕ) (own ring : ℕ) (out out′ : List ℕ)
     → shortestToken ≤ length out
     → out′ ≡ (tokenWritten (firstToken ids ring) out) .out
     → out′ ≡ followedBy (tokenBytes (firstToken ids ring)) out
-unfolding written
+unfolding writingOf
 first-written ids own ring out out′ e room w =
     let size = first-length ids ring in
     w ∙ rw (first-follows ids own ring e, le-leb (length (tokenBytes (firstToken ids ring))) (length out) (omega (arith, size)))

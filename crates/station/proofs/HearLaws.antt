@@ -27,9 +27,9 @@ use Rattle.record.proofs.WholeFacts.{whole-good}
 use Rattle.station.specs.Reply.{Reply, followedBy, mostDeliveries}
 use Rattle.station.specs.Level.{reached, levelOf, raised}
 use Rattle.station.specs.Deliver.{due, handedOut, delivered}
-use Rattle.station.specs.Message.{isHad, isAhead, entryIn, leaveEnded, logWithMessage, messageHeard}
+use Rattle.station.specs.Message.{isHad, isAhead, entryIn, resendEnded, logWithMessage, messageHeard}
 use Rattle.station.specs.EveryArrival.{Hearable}
-use Rattle.station.specs.Steps.{headDelivered, headTold}
+use Rattle.station.specs.Steps.{headDelivered, headHeard}
 use Rattle.station.specs.declared.answer.Answer.{Answer}
 use Rattle.station.specs.declared.answer.Answer.the-variants.{Kept, Had, Ahead}
 use Rattle.station.specs.declared.delivering.Handed.{Handed}
@@ -115,7 +115,7 @@ abbrev heardOn : Record → Log → (ℕ → Answer) → Reply
 heardOn r l kind =
     record {
       answer = kind (length (handedOut l (l .safe .0)));
-      rec = record { own = r .own; log = delivered l (l .safe .0); turn = leaveEnded (r .turn); posts = r .posts };
+      rec = record { own = r .own; log = delivered l (l .safe .0); turn = resendEnded (r .turn); posts = r .posts };
       frames = [];
       deliveries = handedOut l (l .safe .0);
     }
@@ -126,7 +126,7 @@ Leaves reply answer s′ out out′ = (answer ≡ reply .answer) × (s′ ≡ re
 
 module _ (h : Head) (s contents : List ℕ) (reads : contents ≡ contentsIn s logAt) (l : LogHead) (handed : Handed) (size : ℕ) (s′ out out′ : List ℕ)
     (hands : HandedOf l contents handed out out′)
-    (tells : (size ≡ handed .size) × (s′ ≡ recordBytes (recordIn (headTold h (headDelivered l (handed .count))) s))) where
+    (tells : (size ≡ handed .size) × (s′ ≡ recordBytes (recordIn (headHeard h (headDelivered l (handed .count))) s))) where
   there : HandedOf l (contentsIn s logAt) handed out out′
   there = rw reads at hands
 
@@ -136,7 +136,7 @@ module _ (h : Head) (s contents : List ℕ) (reads : contents ≡ contentsIn s l
 
   pub leaves-told : (reply : Reply) (kind : ℕ → Answer) → reply ≡ heardOn (recordIn h s) (logOn l (contentsIn s logAt)) kind → Leaves reply (kind size) s′ out out′
   leaves-told reply kind e =
-      let rest : Log → Record = λ (x : Log). record { own = h .own; log = x; turn = leaveEnded (h .turn); posts = postsOn (h .posts) (waitingIn s postsAt) } in
+      let rest : Log → Record = λ (x : Log). record { own = h .own; log = x; turn = resendEnded (h .turn); posts = postsOn (h .posts) (waitingIn s postsAt) } in
       rw e (ap kind (tells .0 ∙ there .1), tells .1 ∙ ap (λ (x : Log). recordBytes (rest x)) after, there .2)
 
 -- ---- had, or ahead, or kept

@@ -8,8 +8,8 @@ pub mod FoundLaws
 pub mod ReplyGood
 pub mod RingFacts
 pub mod LevelLaws
-pub mod NewsLaws
-pub mod HoldNews
+pub mod NewLaws
+pub mod HoldNew
 pub mod EachLaws
 pub mod WithinLaws
 pub mod FrameLaws
@@ -33,9 +33,9 @@ pub mod ArriveLaws
 pub mod SentLaws
 pub mod Broadcast
 pub mod Forward
-pub mod Leave
+pub mod Finish
 pub mod MessageWhole
-pub mod NewsWhole
+pub mod NewWhole
 pub mod VisitWhole
 pub mod ArrivedGood
 pub mod LeftLaws

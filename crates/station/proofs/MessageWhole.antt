@@ -25,7 +25,7 @@ use Rattle.record.proofs.HeldWhole.{EntryGood}
 use Rattle.record.proofs.WholeFacts.{LogGood, TurnGood, whole-good, good-whole}
 use Rattle.station.specs.Level.{raised}
 use Rattle.station.specs.Deliver.{delivered}
-use Rattle.station.specs.Message.{isHad, isAhead, entryIn, logWithMessage, leaveEnded, messageHeard}
+use Rattle.station.specs.Message.{isHad, isAhead, entryIn, logWithMessage, resendEnded, messageHeard}
 use Rattle.station.proofs.LevelLaws.{neither, level-low}
 use Rattle.station.proofs.LogSteps.{stored-ready, raised-good, delivered-good}
 
@@ -87,8 +87,8 @@ module _ (l : Log) (m : Message) (content : List ℕ) (g : LogGood l) (follows :
 
 -- ---- the leave ends
 
-ended-good : (ring : ℕ) (members : List ℕ) (before level : ℕ) (t : Turn) → TurnGood ring members before t → before ≤ level → TurnGood ring members level (leaveEnded t)
-unfolding leaveEnded
+ended-good : (ring : ℕ) (members : List ℕ) (before level : ℕ) (t : Turn) → TurnGood ring members before t → before ≤ level → TurnGood ring members level (resendEnded t)
+unfolding resendEnded
 ended-good ring members before level t g rises =
     let r = g .range in
     record {
@@ -104,7 +104,7 @@ ended-good ring members before level t g rises =
           };
       aru = omega (arith, g .aru);
       earlier = omega (arith, g .earlier);
-      leave = sym (leave-none ring members (leaveEnded t) refl);
+      leave = sym (leave-none ring members (resendEnded t) refl);
       rest = zeros-zero longestToken 0;
     }
 

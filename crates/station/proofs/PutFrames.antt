@@ -12,7 +12,7 @@ use lib.Dec.{leb}
 use lib.Seq.{take-all, drop-cons, drop-drop, sets, sets-eq, length-sets}
 use Rattle.words.proofs.StoreLaws.{sets-append}
 use Rattle.frames.specs.Layout.{mostContent, longestMessage}
-use Rattle.frames.specs.Write.{written}
+use Rattle.frames.specs.Write.{writingOf}
 use Rattle.frames.specs.declared.header.Header.{Header}
 use Rattle.frames.proofs.Facts.{message-facts}
 use Rattle.frames.proofs.Sizes.{message-length}
@@ -46,8 +46,8 @@ module _ (bytes out rest′ : List ℕ) (at : ℕ) (room : at + length bytes ≤
       rw (none, is, append-nil, drop-drop, sets-eq bytes out at room, append-assoc)
 
   -- a frame, by the writer
-  pub frame-put : (follows : Bool) → follows ≡ true → rest′ ≡ written follows bytes (take (length out - at) (drop at out)) .out → take at out ++ (rest′ ++ drop (length out - at) (drop at out)) ≡ sets out at bytes
-  unfolding written
+  pub frame-put : (follows : Bool) → follows ≡ true → rest′ ≡ writingOf follows bytes (take (length out - at) (drop at out)) .out → take at out ++ (rest′ ++ drop (length out - at) (drop at out)) ≡ sets out at bytes
+  unfolding writingOf
   frame-put follows taken w =
       let part = take (length out - at) (drop at out) in
       let fits : leb (length bytes) (length part) ≡ true = le-leb (length bytes) (length part) (rw all (omega (arith, left))) in

@@ -3,7 +3,7 @@ use mathlib.Core.Path.{_≡_}
 use native.Mathlib.Omega.{arith}
 use Rattle.station.specs.Refusal.{refusalNumber}
 use Rattle.station.specs.declared.refusal.Refusal.{Refusal}
-use Rattle.station.specs.declared.refusal.Refusal.the-variants.{NoRoom, NotWhole, MemberCount, BadIds, NotAmong, BadRing, LongContent, OtherService, PostsFull, WrongLength, OtherKind, Malformed, OtherRing, NotMember, OtherAddressee, OldToken, LastToken, BelowHeld, NoLeave}
+use Rattle.station.specs.declared.refusal.Refusal.the-variants.{NoRoom, NotWhole, MemberCount, BadIds, NotAmong, BadRing, LongContent, OtherService, PostsFull, WrongLength, OtherKind, Malformed, OtherRing, NotMember, OtherAddressee, OldToken, LastToken, BelowHeld, NothingToResend}
 
 pub some-number : (why : Refusal) → refusalNumber why ≡ 0 → ⊥
 some-number NoRoom e = omega arith
@@ -24,4 +24,4 @@ some-number OtherAddressee e = omega arith
 some-number OldToken e = omega arith
 some-number LastToken e = omega arith
 some-number BelowHeld e = omega arith
-some-number NoLeave e = omega arith
+some-number NothingToResend e = omega arith

@@ -14,7 +14,7 @@ use Rattle.record.specs.Size.{mostPosts}
 use Rattle.record.specs.Members.{membersCounted, idsFollow, ownAmong, ringInRange, foundable}
 use Rattle.record.specs.Posts.{waiting}
 use Rattle.record.specs.Fresh.{fresh}
-use Rattle.record.specs.Turn.{hasLeave, remembered}
+use Rattle.record.specs.Turn.{mayResend, remembered}
 use Rattle.record.specs.Whole.{postsInRange, whole}
 use Rattle.record.specs.declared.Record.{Record}
 use Rattle.record.proofs.RangeFacts.{posts-range}
@@ -29,7 +29,7 @@ use Rattle.station.specs.Post.{withPost, posted}
 use Rattle.station.specs.Resend.{resent}
 use Rattle.station.specs.EveryReply.{Counted, KeepsWhole, Good, FoundedGood, PostedGood, ResentGood, FoundedWhole, PostedOne}
 use Rattle.station.specs.declared.refusal.Refusal.{Refusal}
-use Rattle.station.specs.declared.refusal.Refusal.the-variants.{NoRoom, NotWhole, MemberCount, BadIds, NotAmong, BadRing, LongContent, OtherService, PostsFull, NoLeave}
+use Rattle.station.specs.declared.refusal.Refusal.the-variants.{NoRoom, NotWhole, MemberCount, BadIds, NotAmong, BadRing, LongContent, OtherService, PostsFull, NothingToResend}
 use Rattle.station.specs.declared.answer.Answer.{Answer}
 use Rattle.station.specs.declared.answer.Answer.the-variants.{Refused, Founded, Posted, Resent}
 use Rattle.station.proofs.ReplyLaws.{asked}
@@ -72,7 +72,7 @@ module _ (P : Reply → Type 0) (r : Record) (refuses : (why : Refusal) → P (r
   resent-either room taken =
       ask (leb mostFrames room) NoRoom _ (λ enough.
       ask (whole r) NotWhole _ (λ w.
-      ask (hasLeave (r .turn)) NoLeave _ (λ leave.
+      ask (mayResend (r .turn)) NothingToResend _ (λ leave.
       taken w)))
 
 -- ---- refusals are good; an answer with an outcome is no refusal

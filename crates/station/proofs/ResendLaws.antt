@@ -10,7 +10,7 @@ use lib.Dec.{leb}
 use lib.Seq.{sets, length-take-le}
 use Rattle.words.proofs.StoreLaws.{front-stored}
 use Rattle.frames.specs.Layout.{longestToken}
-use Rattle.record.specs.Turn.{hasLeave, remembered}
+use Rattle.record.specs.Turn.{mayResend, remembered}
 use Rattle.record.specs.Whole.{whole}
 use Rattle.record.specs.declared.Record.{Record}
 use Rattle.record.specs.declared.turn.Turn.{Turn}
@@ -18,7 +18,7 @@ use Rattle.record.proofs.WholeFacts.{whole-good}
 use Rattle.station.specs.Reply.{refused, asks, followedBy, mostFrames}
 use Rattle.station.specs.Resend.{resent}
 use Rattle.station.specs.Door.{resendAnswer, resendBytes}
-use Rattle.station.specs.declared.refusal.Refusal.the-variants.{NoRoom, NotWhole, NoLeave}
+use Rattle.station.specs.declared.refusal.Refusal.the-variants.{NoRoom, NotWhole, NothingToResend}
 use Rattle.station.specs.declared.answer.Answer.the-variants.{Refused, Resent}
 
 module _ (r : Record) (room : ℕ) where
@@ -33,12 +33,12 @@ module _ (r : Record) (room : ℕ) where
   pub resent-whole : whole r ≡ true
       → resent r room ≡ record { answer = resendAnswer (r .turn) room; rec = r; frames = resendBytes (r .turn) room; deliveries = [] }
   unfolding resent
-  resent-whole e = rw e (is-whole (leb mostFrames room) (hasLeave (r .turn)))
+  resent-whole e = rw e (is-whole (leb mostFrames room) (mayResend (r .turn)))
     where
       is-whole : (fits leave : Bool)
-          → asks r fits NoRoom (asks r leave NoLeave (record { answer = Resent (r .turn .size); rec = r; frames = remembered (r .turn); deliveries = [] }))
+          → asks r fits NoRoom (asks r leave NothingToResend (record { answer = Resent (r .turn .size); rec = r; frames = remembered (r .turn); deliveries = [] }))
           ≡ record {
-            answer = cond fits (cond leave (Resent (r .turn .size)) (Refused NoLeave)) (Refused NoRoom);
+            answer = cond fits (cond leave (Resent (r .turn .size)) (Refused NothingToResend)) (Refused NoRoom);
             rec = r;
             frames = cond (fits && leave) (remembered (r .turn)) [];
             deliveries = [];

@@ -29,13 +29,13 @@ use Rattle.record.proofs.RangeFacts.{posts-range}
 use Rattle.record.proofs.WholeFacts.{LogGood, RecordGood, whole-good}
 use Rattle.station.specs.Level.{levelOf, raised}
 use Rattle.station.specs.Deliver.{ringHeader}
-use Rattle.station.specs.Visit.{Visit, log, own, posts, allowance, requests, repeats, newCount, sentBy, withNews, highest′, logNow, level′, broadcasts, round′}
+use Rattle.station.specs.Visit.{Visit, log, own, posts, allowance, requests, repeats, newCount, sentBy, withSent, highest′, logNow, level′, broadcasts, round′}
 use Rattle.station.specs.Arrive.{coversHeld}
 use Rattle.station.specs.EveryArrival.{Each, Acceptable}
 use Rattle.station.proofs.LevelLaws.{raised-holds, raised-level, level-low, level-most}
 use Rattle.station.proofs.RingFacts.{founded-facts, own-some}
-use Rattle.station.proofs.NewsLaws.{NewsFit, news-rest, holds-below, holds-above, holds-new}
-use Rattle.station.proofs.NewsWhole.{news-ready, posts-entries}
+use Rattle.station.proofs.NewLaws.{NewFit, new-rest, holds-below, holds-above, holds-new}
+use Rattle.station.proofs.NewWhole.{new-ready, posts-entries}
 use Rattle.station.proofs.LogSteps.{raised-good}
 use Rattle.station.proofs.EachLaws.{each-map, each-take, those-length}
 
@@ -120,8 +120,8 @@ module _ (v : Visit) (a : Acceptable v) where
       each-take (λ p. EntryGood (ids (log v)) (sentBy (own v) p)) (newCount v) (waiting (posts v))
       (posts-entries (ids (log v)) (own v) (posts v) 0 (posts v .count) (posts-range (posts v) (facts .posts)) (own-some (v .rec) facts) (own-most (ids (log v)) (own v) f) (f .among))
 
-  pub news-fit : NewsFit (log v) (own v) (v .token .highest .0) newPosts
-  news-fit =
+  pub new-fit : NewFit (log v) (own v) (v .token .highest .0) newPosts
+  new-fit =
       record {
         sizes = held-sizes (log v .held) (facts .log .ready .stock .held .range);
         low = safe-highest;
@@ -133,13 +133,13 @@ module _ (v : Visit) (a : Acceptable v) where
   -- ---- what is held then
 
   abbrev pub withNew : Log
-  withNew = withNews (log v) (own v) (v .token .highest .0) newPosts
+  withNew = withSent (log v) (own v) (v .token .highest .0) newPosts
 
   pub now-good : LogGood (logNow v)
   unfolding logNow highest′
   now-good =
       raised-good withNew
-      (news-ready (log v) (own v) (v .token .highest .0) newPosts (facts .log .ready) news-fit (omega (arith, new-length, highest-most)) held-highest new-entries)
+      (new-ready (log v) (own v) (v .token .highest .0) newPosts (facts .log .ready) new-fit (omega (arith, new-length, highest-most)) held-highest new-entries)
 
   now-holds : (n : ℕ) → holds (logNow v) n ≡ holds withNew n
   unfolding logNow
@@ -152,24 +152,24 @@ module _ (v : Visit) (a : Acceptable v) where
       elim (decLt (v .token .highest .0 + length newPosts) n) [
         | no k ↦ omega (arith, new-length)
         | yes k ↦
-            let before = held-highest n (sym (holds-above (log v) (own v) (v .token .highest .0) newPosts news-fit n k) ∙ sym (now-holds n) ∙ h) in
+            let before = held-highest n (sym (holds-above (log v) (own v) (v .token .highest .0) newPosts new-fit n k) ∙ sym (now-holds n) ∙ h) in
             omega arith
       ]
 
   -- every new number
   pub now-new : (n : ℕ) → v .token .highest .0 < n → n ≤ highest′ v → holds (logNow v) n ≡ true
   unfolding highest′
-  now-new n low high = now-holds n ∙ holds-new (log v) (own v) (v .token .highest .0) newPosts news-fit n low (omega (arith, new-length))
+  now-new n low high = now-holds n ∙ holds-new (log v) (own v) (v .token .highest .0) newPosts new-fit n low (omega (arith, new-length))
 
   -- what was held before
   pub now-old : (n : ℕ) → n ≤ v .token .highest .0 → holds (logNow v) n ≡ holds (log v) n
-  now-old n low = now-holds n ∙ holds-below (log v) (own v) (v .token .highest .0) newPosts news-fit n low
+  now-old n low = now-holds n ∙ holds-below (log v) (own v) (v .token .highest .0) newPosts new-fit n low
 
   -- ---- all else but the level stays
 
   now-rest : logNow v ≡ logWith (log v) (logNow v .level) (log v .safe) (log v .delivered) (logNow v .held)
   unfolding logNow raised
-  now-rest = ap (λ (l : Log). logWith l (record { 0 = levelOf withNew }) (l .safe) (l .delivered) (withNew .held)) (news-rest (log v) (own v) (v .token .highest .0) newPosts)
+  now-rest = ap (λ (l : Log). logWith l (record { 0 = levelOf withNew }) (l .safe) (l .delivered) (withNew .held)) (new-rest (log v) (own v) (v .token .highest .0) newPosts)
 
   pub now-safe : logNow v .safe ≡ log v .safe
   now-safe = ap (λ (l : Log). l .safe) now-rest
@@ -186,7 +186,7 @@ module _ (v : Visit) (a : Acceptable v) where
   -- ---- the level then
 
   new-level : withNew .level .0 ≡ log v .level .0
-  new-level = ap (λ (l : Log). l .level .0) (news-rest (log v) (own v) (v .token .highest .0) newPosts)
+  new-level = ap (λ (l : Log). l .level .0) (new-rest (log v) (own v) (v .token .highest .0) newPosts)
 
   now-level : level′ v ≡ levelOf withNew
   unfolding logNow

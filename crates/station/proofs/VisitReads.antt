@@ -15,7 +15,7 @@ use Rattle.record.specs.Size.{mostBroadcasts}
 use Rattle.record.specs.Ring.{ids}
 use Rattle.station.specs.Reply.{mostFrames, mostDeliveries}
 use Rattle.station.specs.Deliver.{frameOf, joined}
-use Rattle.station.specs.Visit.{Visit, log, own, nextMember, requests, repeats, newCount, news, numbersAfter, highest′, logNow, safe′, broadcasts, token′, written, accepted}
+use Rattle.station.specs.Visit.{Visit, log, own, nextMember, requests, repeats, newCount, newNumbers, numbersAfter, highest′, logNow, safe′, broadcasts, token′, written, accepted}
 use Rattle.station.specs.Within.{framesIn}
 use Rattle.station.specs.EveryArrival.{Each, Acceptable, HeldReads, VisitReads, AcceptedReads}
 use Rattle.station.specs.Steps.{sentFrames}
@@ -39,25 +39,25 @@ module _ (v : Visit) (a : Acceptable v) where
   unfolding repeats
   repeats-held = those-pass (holds (log v)) (requests v)
 
-  news-held : Each (λ n. holds (logNow v) n ≡ true) (news v)
-  unfolding news highest′
-  news-held =
+  new-held : Each (λ n. holds (logNow v) n ≡ true) (newNumbers v)
+  unfolding newNumbers highest′
+  new-held =
       let top = v .token .highest .0 in
       each-map (Between top (top + newCount v)) (λ n. holds (logNow v) n ≡ true) (numbersAfter top (newCount v)) (λ n b. now-new v a n (b .above) (b .upto)) (after-between top (newCount v))
 
   repeats-read : Each (HeldReads (log v)) (repeats v)
   repeats-read = numbers-read (log v) before-writable (repeats v) repeats-held
 
-  news-read : Each (HeldReads (logNow v)) (news v)
-  news-read = numbers-read (logNow v) now-writable (news v) news-held
+  new-read : Each (HeldReads (logNow v)) (newNumbers v)
+  new-read = numbers-read (logNow v) now-writable (newNumbers v) new-held
 
   written-exact : Each Exact (written v)
   unfolding written
   written-exact =
       let old = map (frameOf (log v)) (repeats v) in
-      let new = map (frameOf (logNow v)) (news v) in
+      let new = map (frameOf (logNow v)) (newNumbers v) in
       each-append Exact (old ++ new) (tokenBytes (token′ v) ∷ [])
-      (each-append Exact old new (reads-exact (log v) (repeats v) repeats-read) (reads-exact (logNow v) (news v) news-read))
+      (each-append Exact old new (reads-exact (log v) (repeats v) repeats-read) (reads-exact (logNow v) (newNumbers v) new-read))
       (token-read (tokenBytes (token′ v)) (token′ v) (token-reads v a) .exact, tt)
 
   frames-found : framesIn (accepted v .frames) ≡ written v
@@ -74,7 +74,7 @@ module _ (v : Visit) (a : Acceptable v) where
       record {
         delivered = handed-reads (logNow v) now-writable (safe′ v);
         repeated = repeats-read;
-        sent = news-read;
+        sent = new-read;
         forwarded = token-reads v a;
         passes = token-passes v a;
         next = addressed;
@@ -83,9 +83,9 @@ module _ (v : Visit) (a : Acceptable v) where
 
   -- ---- how many bytes
 
-  news-length : length (news v) ≡ newCount v
-  unfolding news
-  news-length = after-length (v .token .highest .0) (newCount v)
+  numbers-length : length (newNumbers v) ≡ newCount v
+  unfolding newNumbers
+  numbers-length = after-length (v .token .highest .0) (newCount v)
 
   -- the repeats leave room for the new messages
   pub repeats-short : length (joined (map (frameOf (log v)) (repeats v))) + longestMessage * newCount v ≤ mostBroadcasts * longestMessage
@@ -97,14 +97,14 @@ module _ (v : Visit) (a : Acceptable v) where
   unfolding broadcasts
   sent-short =
       let old = map (frameOf (log v)) (repeats v) in
-      let new = map (frameOf (logNow v)) (news v) in
+      let new = map (frameOf (logNow v)) (newNumbers v) in
       omega (
         arith,
         ap length (joined-join old new),
         length-append (joined old) (joined new),
         frames-short (log v) before-writable (repeats v) repeats-held,
-        frames-short (logNow v) now-writable (news v) news-held,
-        news-length,
+        frames-short (logNow v) now-writable (newNumbers v) new-held,
+        numbers-length,
         few-broadcasts v a,
       )
 

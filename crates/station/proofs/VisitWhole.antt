@@ -16,7 +16,7 @@ use Rattle.frames.specs.declared.number.MessageNumber.{MessageNumber}
 use Rattle.record.specs.Size.{mostStall}
 use Rattle.record.specs.Held.{letGo}
 use Rattle.record.specs.Ring.{ids}
-use Rattle.record.specs.Whole.{leaveIsGood, whole}
+use Rattle.record.specs.Whole.{resendPasses, whole}
 use Rattle.record.proofs.ListLaws.{zeros-zero}
 use Rattle.record.proofs.PostsWhole.{taken-in-range, taken-unused-zero}
 use Rattle.record.proofs.WholeFacts.{LogGood, TurnGood, good-whole}
@@ -89,8 +89,8 @@ module _ (v : Visit) (a : Acceptable v) where
       go true = omega arith
       go false = omega arith
 
-  leave-good : leaveIsGood (log v .ring .0) (ids (log v)) (turn′ v) ≡ true
-  unfolding leaveIsGood turn′
+  leave-good : resendPasses (log v .ring .0) (ids (log v)) (turn′ v) ≡ true
+  unfolding resendPasses turn′
   leave-good =
       let t = tokenBytes (token′ v) in
       rw (take-append-seam t (replicate (longestToken - length t) 0), token-passes v a) (or-true (not (not (eqb (length t) 0))))

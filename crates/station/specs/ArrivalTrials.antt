@@ -275,8 +275,8 @@ door =
 abbrev pub resends : Reply → Reply
 resends reply = resent (reply .rec) 1470
 
-abbrev pub leave : List Trial
-leave =
+abbrev pub resendings : List Trial
+resendings =
     -- the token that was forwarded, byte for byte
     row (outcome (resends forwarded)) 7
     ∷ rowOf (resends forwarded .frames) (frameAt forwarded 0)
@@ -297,4 +297,4 @@ abbrev pub visiting : List Trial
 visiting = blocking ++ forwarding ++ flow ++ contents ++ stalling ++ requesting
 
 abbrev pub entering : List Trial
-entering = door ++ leave
+entering = door ++ resendings

@@ -9,12 +9,12 @@ use Rattle.frames.specs.Layout.{mostService, mostContent}
 use Rattle.frames.specs.Token.{tokenBytes}
 use Rattle.record.specs.Size.{mostPosts}
 use Rattle.record.specs.Members.{membersCounted, idsFollow, ownAmong, ringInRange}
-use Rattle.record.specs.Turn.{hasLeave, remembered}
+use Rattle.record.specs.Turn.{mayResend, remembered}
 use Rattle.record.specs.declared.turn.Turn.{Turn}
 use Rattle.station.specs.Answer.{isTaken}
 use Rattle.station.specs.Reply.{mostFrames}
 use Rattle.station.specs.Found.{firstToken}
-use Rattle.station.specs.declared.refusal.Refusal.the-variants.{NoRoom, NotWhole, MemberCount, BadIds, NotAmong, BadRing, LongContent, OtherService, PostsFull, NoLeave}
+use Rattle.station.specs.declared.refusal.Refusal.the-variants.{NoRoom, NotWhole, MemberCount, BadIds, NotAmong, BadRing, LongContent, OtherService, PostsFull, NothingToResend}
 use Rattle.station.specs.declared.answer.Answer.{Answer}
 use Rattle.station.specs.declared.answer.Answer.the-variants.{Refused, Founded, Posted, Resent}
 
@@ -49,7 +49,7 @@ postAnswer count service content =
 
 -- 1 and 19; `room` is the length of the buffer
 abbrev pub resendAnswer : Turn → ℕ → Answer
-resendAnswer t room = cond (leb mostFrames room) (cond (hasLeave t) (Resent (t .size)) (Refused NoLeave)) (Refused NoRoom)
+resendAnswer t room = cond (leb mostFrames room) (cond (mayResend t) (Resent (t .size)) (Refused NothingToResend)) (Refused NoRoom)
 
 abbrev pub resendBytes : Turn → ℕ → List ℕ
-resendBytes t room = cond (leb mostFrames room && hasLeave t) (remembered t) []
+resendBytes t room = cond (leb mostFrames room && mayResend t) (remembered t) []

@@ -21,7 +21,7 @@ use Rattle.station.specs.Reply.{Reply, refused, mostFrames, mostDeliveri
 use Rattle.station.specs.EveryReply.{Good}
 use Rattle.station.specs.Deliver.{messageWith, entryOf, frameOf, due}
 use Rattle.station.specs.Message.{logWithMessage, messageHeard}
-use Rattle.station.specs.Visit.{Visit, log, own, repeats, news, logNow, safe′, token′, nextMember, written, accepted}
+use Rattle.station.specs.Visit.{Visit, log, own, repeats, newNumbers, logNow, safe′, token′, nextMember, written, accepted}
 use Rattle.station.specs.Arrive.{coversHeld, arrived}
 use Rattle.station.specs.Within.{framesIn}
 use Rattle.station.specs.declared.refusal.Refusal.{Refusal}
@@ -100,7 +100,7 @@ HeardReads = (r : Record) (m : Message) (content : List ℕ)
 pub record VisitReads (v : Visit) : Type 0 where
   pub delivered : HandedReads (logNow v) (safe′ v) (accepted v .deliveries)
   pub repeated : Each (HeldReads (log v)) (repeats v)
-  pub sent : Each (HeldReads (logNow v)) (news v)
+  pub sent : Each (HeldReads (logNow v)) (newNumbers v)
   pub forwarded : readOf (tokenBytes (token′ v)) ≡ aToken (token′ v)
   pub passes : tokenPasses (log v .ring .0) (ids (log v)) (tokenBytes (token′ v)) ≡ true
   pub next : readOf (tokenBytes (token′ v)) .token .addressee ≡ nextMember (ids (log v)) (own v)

@@ -38,8 +38,8 @@ unfoldable pub logWithMessage : Log → Message → List ℕ → Log
 logWithMessage l m content = heardAs l (m .number .0) l l (raised (stored l (m .number .0) (entryIn m content)))
 
 -- the leave to resend has ended: the token is zero
-unfoldable pub leaveEnded : Turn → Turn
-leaveEnded t =
+unfoldable pub resendEnded : Turn → Turn
+resendEnded t =
     record {
       aru = t .aru;
       earlier = t .earlier;
@@ -57,7 +57,7 @@ messageHeard r m content =
     let out = handedOut l (l .safe .0) in
     record {
       answer = heardAs (current r) (m .number .0) (Had (length out)) (Ahead (length out)) (Kept (length out));
-      rec = record { own = r .own; log = delivered l (l .safe .0); turn = leaveEnded (r .turn); posts = r .posts };
+      rec = record { own = r .own; log = delivered l (l .safe .0); turn = resendEnded (r .turn); posts = r .posts };
       frames = [];
       deliveries = out;
     }

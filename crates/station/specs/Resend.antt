@@ -3,11 +3,11 @@
 use Prim.Native.Nat.{ℕ}
 use mathlib.Core.List.{[]}
 use lib.Dec.{leb}
-use Rattle.record.specs.Turn.{hasLeave, remembered}
+use Rattle.record.specs.Turn.{mayResend, remembered}
 use Rattle.record.specs.Whole.{whole}
 use Rattle.record.specs.declared.Record.{Record}
 use Rattle.station.specs.Reply.{Reply, asks, mostFrames}
-use Rattle.station.specs.declared.refusal.Refusal.the-variants.{NoRoom, NotWhole, NoLeave}
+use Rattle.station.specs.declared.refusal.Refusal.the-variants.{NoRoom, NotWhole, NothingToResend}
 use Rattle.station.specs.declared.answer.Answer.the-variants.{Resent}
 
 -- `room`: the length of the buffer for frames
@@ -15,5 +15,5 @@ unfoldable pub resent : Record → ℕ → Reply
 resent r room =
     asks r (leb mostFrames room) NoRoom
     (asks r (whole r) NotWhole
-    (asks r (hasLeave (r .turn)) NoLeave
+    (asks r (mayResend (r .turn)) NothingToResend
     (record { answer = Resent (r .turn .size); rec = r; frames = remembered (r .turn); deliveries = [] })))

@@ -24,8 +24,8 @@ use Rattle.record.specs.declared.head.Head.{Head}
 use Rattle.record.specs.declared.log.Held.{Held}
 use Rattle.record.specs.declared.log.Log.{Log}
 use Rattle.station.specs.Deliver.{ringHeader, entryOf, frameOf, joined}
-use Rattle.station.specs.Message.{entryIn, leaveEnded}
-use Rattle.station.specs.Visit.{Visit, log, unanswered, repeats, newCount, news, logNow, ownOrNobody, aru′, blocker′, safe′, deaf, broadcasts, turn′}
+use Rattle.station.specs.Message.{entryIn, resendEnded}
+use Rattle.station.specs.Visit.{Visit, log, unanswered, repeats, newCount, newNumbers, logNow, ownOrNobody, aru′, blocker′, safe′, deaf, broadcasts, turn′}
 use Rattle.station.specs.declared.requests.Requests.{Requests}
 use Rattle.station.specs.declared.broadcasting.Sent.{Sent}
 use Rattle.station.specs.declared.marks.Reach.{Reach}
@@ -62,8 +62,8 @@ abbrev pub headDelivered : LogHead → ℕ → LogHead
 headDelivered l n = headWith l (l .level) (l .safe) (record { 0 = l .delivered .0 + n }) (l .senders) (l .services) (l .lengths)
 
 -- its delivery over: the log's new head, and the leave to resend has ended
-abbrev pub headTold : Head → LogHead → Head
-headTold h log = record { own = h .own; log = log; turn = leaveEnded (h .turn); posts = h .posts }
+abbrev pub headHeard : Head → LogHead → Head
+headHeard h log = record { own = h .own; log = log; turn = resendEnded (h .turn); posts = h .posts }
 
 -- ---- a list of numbers in a token's places, zero past them
 unfoldable pub listed : List ℕ → Requests
@@ -79,7 +79,7 @@ repeatFrames v = map (frameOf (log v)) (repeats v)
 
 -- step 3, written out
 abbrev pub newFrames : Visit → List (List ℕ)
-newFrames v = map (frameOf (logNow v)) (news v)
+newFrames v = map (frameOf (logNow v)) (newNumbers v)
 
 abbrev pub sentFrames : Visit → List (List ℕ)
 sentFrames v = repeatFrames v ++ newFrames v
@@ -90,7 +90,7 @@ sentOf v =
     record {
       log = headOf (logNow v);
       rest = listed (unanswered v);
-      news = newCount v;
+      added = newCount v;
       count = broadcasts v;
       size = length (joined (repeatFrames v));
     }

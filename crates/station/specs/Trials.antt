@@ -7,7 +7,7 @@ use lib.ListN.{replicate}
 use lib.Dec.{eqb}
 use Rattle.record.specs.Layout.{recordSize}
 use Rattle.frames.specs.Layout.{shortestToken, longestToken}
-use Rattle.frames.specs.Trials.{firstToken as firstBytes}
+use Rattle.frames.specs.Trials.{firstBytes}
 use Rattle.record.specs.Fresh.{freshLog, freshPosts, fresh}
 use Rattle.record.specs.declared.Record.{Record}
 use Rattle.station.specs.Answer.{outcomeOf}

@@ -91,9 +91,9 @@ abbrev pub sentBy : ℕ → Post → Entry
 sentBy own p = record { sender = own; service = p .service; content = p .content }
 
 -- each takes the highest number + 1 and is held
-unfoldable pub withNews : Log → ℕ → ℕ → List Post → Log
-withNews l own highest [] = l
-withNews l own highest (p ∷ ps) = withNews (stored l (suc highest) (sentBy own p)) own (suc highest) ps
+unfoldable pub withSent : Log → ℕ → ℕ → List Post → Log
+withSent l own highest [] = l
+withSent l own highest (p ∷ ps) = withSent (stored l (suc highest) (sentBy own p)) own (suc highest) ps
 
 -- the n numbers after `last`
 unfoldable pub numbersAfter : ℕ → ℕ → List ℕ
@@ -101,8 +101,8 @@ numbersAfter last zero = []
 numbersAfter last (suc n) = suc last ∷ numbersAfter (suc last) n
 
 -- the numbers of the new messages
-unfoldable pub news : Visit → List ℕ
-news v = numbersAfter (v .token .highest .0) (newCount v)
+unfoldable pub newNumbers : Visit → List ℕ
+newNumbers v = numbersAfter (v .token .highest .0) (newCount v)
 
 -- the highest number [seq]
 unfoldable pub highest′ : Visit → ℕ
@@ -110,7 +110,7 @@ highest′ v = v .token .highest .0 + newCount v
 
 -- what is held now; the level rises
 unfoldable pub logNow : Visit → Log
-logNow v = raised (withNews (log v) (own v) (v .token .highest .0) (take (newCount v) (waiting (posts v))))
+logNow v = raised (withSent (log v) (own v) (v .token .highest .0) (take (newCount v) (waiting (posts v))))
 
 -- [my_aru]
 abbrev pub level′ : Visit → ℕ
@@ -229,7 +229,7 @@ rec′ v = record { own = own v; log = log′ v; turn = turn′ v; posts = taken
 -- ---- written out: repeats, new messages, token
 
 unfoldable pub written : Visit → List (List ℕ)
-written v = map (frameOf (log v)) (repeats v) ++ map (frameOf (logNow v)) (news v) ++ (tokenBytes (token′ v) ∷ [])
+written v = map (frameOf (log v)) (repeats v) ++ map (frameOf (logNow v)) (newNumbers v) ++ (tokenBytes (token′ v) ∷ [])
 
 unfoldable pub accepted : Visit → Reply
 accepted v =

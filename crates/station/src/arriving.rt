@@ -47,7 +47,7 @@ fn covers_held(l: LogHead, highest: MessageNumber) -> bool
         return false;
     }
     let senders = l.senders;
-    let covered = words::less(highest.0, l.safe.0);
+    let covered = words::saturating_sub(highest.0, l.safe.0);
     let mut good = true;
     let mut i = 0;
     while i < record::MOST_HELD {

@@ -18,7 +18,7 @@ ghost use Rattle.station.specs.Steps.{listIn, repeatFrames, sentOf};
 use crate::flow;
 use crate::held_frames;
 use crate::level;
-use crate::news;
+use crate::new_messages;
 use crate::requests;
 use crate::requests::Requests;
 use frames::Token;
@@ -30,7 +30,7 @@ use record::LogHead;
 pub struct Sent {
     pub log: LogHead,
     pub rest: Requests,
-    pub news: u32,
+    pub added: u32,
     pub count: u32,
     pub size: usize,
 }
@@ -66,18 +66,18 @@ pub fn broadcast(h: Head, s: &[u8], t: Token, out: &mut [u8]) -> Sent
 {
     let requests = t.requests;
     let asked = t.count as usize;
-    let sifted = requests::sift(h.log, &requests[0..asked]);
-    let repeats = sifted.held;
-    let rest = sifted.rest;
+    let split = requests::split_requests(h.log, &requests[0..asked]);
+    let repeats = split.held;
+    let rest = split.rest;
     let repeated = repeats.count as u32;
-    let news = flow::new_count(h, s, t, repeated);
-    let log = level::raise(news::hold_news(h, s, t.highest, news));
+    let added = flow::new_count(h, s, t, repeated);
+    let log = level::raise(new_messages::hold_new(h, s, t.highest, added));
     let size = put_repeats(h.log, record::contents_in(s), repeats, out);
     Sent {
         log,
         rest,
-        news,
-        count: repeated + news,
+        added,
+        count: repeated + added,
         size,
     }
 }

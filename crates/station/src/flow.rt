@@ -20,14 +20,14 @@ const MOST_IN_ROUND: u32 = 24;
 pub fn others(round: u16, broadcast: u8) -> u32
     ensures { λ r. ⌜ r ≡ round - broadcast ⌝ }
 {
-    words::less(round as u32, broadcast as u32)
+    words::saturating_sub(round as u32, broadcast as u32)
 }
 
 // 1. The allowance.
 fn allowance(others: u32) -> u32
     ensures { λ r. ⌜ r ≡ min mostNew (mostInRound - others) ⌝ }
 {
-    words::smaller(MOST_NEW, words::less(MOST_IN_ROUND, others))
+    words::smaller(MOST_NEW, words::saturating_sub(MOST_IN_ROUND, others))
 }
 
 // 3. How many new messages. Ruled out: the posts alone decide; the repeats don't count.
@@ -37,9 +37,9 @@ pub fn new_count(h: Head, s: &[u8], t: Token, repeats: u32) -> u32
     ensures { λ r. ⌜ r ≡ newCount (visit (recordIn h (now (s .entry))) t) ⌝ }
 {
     let highest = t.highest.0;
-    let allowed = words::less(allowance(others(t.round, h.turn.broadcast)), repeats);
-    let window = words::less(h.log.safe.0 + record::MOST_HELD as u32, highest);
-    let numbers = words::less(frames::MOST_NUMBER, highest);
+    let allowed = words::saturating_sub(allowance(others(t.round, h.turn.broadcast)), repeats);
+    let window = words::saturating_sub(h.log.safe.0 + record::MOST_HELD as u32, highest);
+    let numbers = words::saturating_sub(frames::MOST_NUMBER, highest);
     words::smaller(
         allowed,
         words::smaller(h.posts.count as u32, words::smaller(window, numbers)),

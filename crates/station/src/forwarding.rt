@@ -32,7 +32,7 @@ fn requests_after(h: Head, s: &[u8], t: Token, b: Sent, safe: MessageNumber) -> 
         Acceptable (visit (recordIn h (now s)) t) × (b ≡ sentOf (visit (recordIn h (now s)) t)) × (safe .0 ≡ safe′ (visit (recordIn h (now s)) t)) ⌝ }
     ensures { λ r. ⌜ r ≡ listed (requests′ (visit (recordIn h (now (s .entry))) t)) ⌝ }
 {
-    let highest = t.highest.0 + b.news;
+    let highest = t.highest.0 + b.added;
     let window = safe.0 + record::MOST_HELD as u32;
     let top = MessageNumber(words::smaller(highest, window));
     requests::add_missing(b.log, b.rest, b.log.level, top)
@@ -56,7 +56,7 @@ fn token_after(h: Head, s: &[u8], t: Token, b: Sent, reach: Reach, requests: Req
         header: held_frames::ring_header(h.log),
         addressee: circulation::next_member(&members[0..n], h.own),
         number: TokenNumber(t.number.0 + 1),
-        highest: MessageNumber(t.highest.0 + b.news),
+        highest: MessageNumber(t.highest.0 + b.added),
         aru,
         blocker,
         round: flow::round_after(flow::others(t.round, h.turn.broadcast), b.count),
@@ -95,7 +95,7 @@ pub fn forward(h: Head, s: &[u8], t: Token, b: Sent) -> Forwarded
     requires { ⌜ Acceptable (visit (recordIn h (now s)) t) × (b ≡ sentOf (visit (recordIn h (now s)) t)) ⌝ }
     ensures { λ r. ⌜ r ≡ forwardedOf (visit (recordIn h (now (s .entry))) t) ⌝ }
 {
-    let highest = MessageNumber(t.highest.0 + b.news);
+    let highest = MessageNumber(t.highest.0 + b.added);
     let before = t.blocker;
     let reach = marks::reach_after(h.own, b.log.level, highest, t.aru, before);
     let blocker = reach.blocker;

@@ -12,9 +12,9 @@ ghost use Rattle.record.specs.Held.{stored};
 ghost use Rattle.record.specs.Layout.{recordSize, logAt, postsAt};
 ghost use Rattle.station.specs.Reply.{followedBy, mostDeliveries};
 ghost use Rattle.station.specs.Level.{raised};
-ghost use Rattle.station.specs.Message.{isHad, isAhead, entryIn, leaveEnded, messageHeard};
+ghost use Rattle.station.specs.Message.{isHad, isAhead, entryIn, resendEnded, messageHeard};
 ghost use Rattle.station.specs.EveryArrival.{Hearable};
-ghost use Rattle.station.specs.Steps.{headDelivered, headTold};
+ghost use Rattle.station.specs.Steps.{headDelivered, headHeard};
 use crate::answer::Answer;
 use crate::delivering;
 use crate::delivering::Handed;
@@ -61,8 +61,8 @@ fn keep(l: LogHead, s: &mut [u8], m: Message, content: &[u8]) -> LogHead
 }
 
 // Without the leave to resend.
-fn leave_ended(t: Turn) -> Turn
-    ensures { λ r. ⌜ r ≡ leaveEnded t ⌝ }
+fn resend_ended(t: Turn) -> Turn
+    ensures { λ r. ⌜ r ≡ resendEnded t ⌝ }
 {
     let aru = t.aru;
     let earlier = t.earlier;
@@ -79,27 +79,27 @@ fn leave_ended(t: Turn) -> Turn
 }
 
 // The record is stored once this log has delivered; how many bytes it delivered.
-fn tell(h: Head, s: &mut [u8], l: LogHead, handed: Handed) -> u16
+fn put_heard(h: Head, s: &mut [u8], l: LogHead, handed: Handed) -> u16
     requires { ⌜
         (handed .size ≤ mostDeliveries)
         × (l .delivered .0 + handed .count ≤ mostNumber)
         × (length (now s) ≡ recordSize) ⌝ }
     ensures { λ r. ⌜
         (r ≡ handed .size)
-        × (now (s .exit) ≡ recordBytes (recordIn (headTold h (headDelivered l (handed .count))) (now (s .entry)))) ⌝ }
+        × (now (s .exit) ≡ recordBytes (recordIn (headHeard h (headDelivered l (handed .count))) (now (s .entry)))) ⌝ }
 {
     let mark = MessageNumber(l.delivered.0 + handed.count);
     let mut log = l;
     log.delivered = mark;
-    let turn = leave_ended(h.turn);
+    let turn = resend_ended(h.turn);
     let posts = h.posts;
-    let told = Head {
+    let after = Head {
         own: h.own,
         log,
         turn,
         posts,
     };
-    record::put_head(s, told);
+    record::put_head(s, after);
     handed.size as u16
 }
 
@@ -120,16 +120,16 @@ pub fn hear(h: Head, s: &mut [u8], m: Message, content: &[u8], deliveries: &mut 
     let l = h.log;
     if is_had(l, m.number) {
         let handed = delivering::hand_out(l, record::contents_in(s), l.safe, deliveries);
-        let size = tell(h, s, l, handed);
+        let size = put_heard(h, s, l, handed);
         return Answer::Had(size);
     }
     if is_ahead(l, m.number) {
         let handed = delivering::hand_out(l, record::contents_in(s), l.safe, deliveries);
-        let size = tell(h, s, l, handed);
+        let size = put_heard(h, s, l, handed);
         return Answer::Ahead(size);
     }
     let kept = keep(l, s, m, content);
     let handed = delivering::hand_out_kept(kept, record::contents_in(s), m, content, deliveries);
-    let size = tell(h, s, kept, handed);
+    let size = put_heard(h, s, kept, handed);
     Answer::Kept(size)
 }

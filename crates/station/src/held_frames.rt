@@ -12,7 +12,7 @@ ghost use Rattle.frames.specs.Header.{headerFollows};
 ghost use Rattle.frames.specs.Message.{messageFollows, messageBytes};
 ghost use Rattle.record.specs.Size.{mostMembers};
 ghost use Rattle.record.specs.Head.{logOn};
-ghost use Rattle.record.specs.Held.{holds, heldOf};
+ghost use Rattle.record.specs.Held.{holds, heldFrom};
 ghost use Rattle.record.proofs.WholeFacts.{LogGood};
 ghost use Rattle.station.specs.Deliver.{ringHeader, frameOf, joined};
 ghost use Rattle.station.specs.Visit.{numbersAfter};
@@ -62,12 +62,12 @@ fn put_held<'a>(
     at: usize,
 ) -> usize
     requires { ⌜
-        Frameable header (heldOf (now senders) (now services) (now lengths) (now contents)) (n .0)
+        Frameable header (heldFrom (now senders) (now services) (now lengths) (now contents)) (n .0)
         × (at + longestMessage ≤ length (now out)) ⌝ }
     ensures { λ r. ⌜
-        (r ≡ at + length (heldFrame header (heldOf (now (senders .entry)) (now (services .entry)) (now (lengths .entry)) (now (contents .entry))) (n .0)))
+        (r ≡ at + length (heldFrame header (heldFrom (now (senders .entry)) (now (services .entry)) (now (lengths .entry)) (now (contents .entry))) (n .0)))
         × (now (out .exit) ≡ sets (now (out .entry)) at
-        (heldFrame header (heldOf (now (senders .entry)) (now (services .entry)) (now (lengths .entry)) (now (contents .entry))) (n .0))) ⌝ }
+        (heldFrame header (heldFrom (now (senders .entry)) (now (services .entry)) (now (lengths .entry)) (now (contents .entry))) (n .0))) ⌝ }
 {
     let place = n.0 as usize % record::MOST_HELD;
     let from = frames::MOST_CONTENT * place;

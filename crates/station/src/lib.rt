@@ -14,7 +14,7 @@ mod hearing;
 mod held_frames;
 mod level;
 mod marks;
-mod news;
+mod new_messages;
 mod posting;
 mod refusal;
 mod requests;

@@ -40,7 +40,7 @@ pub enum Refusal {
     // 18: the token's highest is below the level, or below a number held here.
     BelowHeld,
     // 19: there is no token that may be resent.
-    NoLeave,
+    NothingToResend,
 }
 
 // The question's number in document 01. Ruled out: one number for all; 7 and 8 changed over.
@@ -66,6 +66,6 @@ pub fn refusal_number(r: Refusal) -> u16
         Refusal::OldToken => 16,
         Refusal::LastToken => 17,
         Refusal::BelowHeld => 18,
-        Refusal::NoLeave => 19,
+        Refusal::NothingToResend => 19,
     }
 }

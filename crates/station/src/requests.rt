@@ -22,13 +22,13 @@ pub struct Requests {
 }
 
 // Requests apart: those whose message is held, and the rest.
-pub struct Sifted {
+pub struct Split {
     pub held: Requests,
     pub rest: Requests,
 }
 
 // 2. Ruled out: a request struck off whose message isn't held; the rest in another order.
-pub fn sift(l: LogHead, requests: &[u32]) -> Sifted
+pub fn split_requests(l: LogHead, requests: &[u32]) -> Split
     requires { ⌜ (l .safe .0 ≤ mostNumber) × (length (now requests) ≤ mostRequests) ⌝ }
     ensures { λ r. ⌜ ((contents : List ℕ) → r ≡ record {
       held = listed (those (holds (logOn l contents)) (now (requests .entry)));
@@ -54,7 +54,7 @@ pub fn sift(l: LogHead, requests: &[u32]) -> Sifted
         }
         i += 1;
     }
-    Sifted {
+    Split {
         held: Requests {
             numbers: held,
             count: repeats,

@@ -35,7 +35,7 @@ pub fn resend_whole(t: Turn, frames: &mut [u8]) -> Answer
         return Answer::Refused(Refusal::NoRoom);
     }
     if t.size == 0 {
-        return Answer::Refused(Refusal::NoLeave);
+        return Answer::Refused(Refusal::NothingToResend);
     }
     put_remembered(t, frames);
     Answer::Resent(t.size)

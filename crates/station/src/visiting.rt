@@ -28,7 +28,7 @@ use crate::delivering;
 use crate::forwarding;
 use crate::forwarding::Forwarded;
 use crate::held_frames;
-use crate::news;
+use crate::new_messages;
 use crate::resending;
 use frames::MessageNumber;
 use frames::Token;
@@ -36,7 +36,7 @@ use record::Head;
 
 // The new messages' contents move, and their frames and the token's are written out behind the repeats'. How many
 // bytes are written in all.
-fn send_news(h: Head, s: &mut [u8], t: Token, b: Sent, f: Forwarded, out: &mut [u8]) -> usize
+fn send_new(h: Head, s: &mut [u8], t: Token, b: Sent, f: Forwarded, out: &mut [u8]) -> usize
     requires { ⌜
         Acceptable (visit (recordIn h (now s)) t)
         × (b ≡ sentOf (visit (recordIn h (now s)) t))
@@ -51,12 +51,12 @@ fn send_news(h: Head, s: &mut [u8], t: Token, b: Sent, f: Forwarded, out: &mut [
         (joined (newFrames (visit (recordIn h (now (s .entry))) t))
         ++ tokenBytes (token′ (visit (recordIn h (now (s .entry))) t)))) ⌝ }
 {
-    news::place_news(s, h.posts, t.highest, b.news);
+    new_messages::place_new(s, h.posts, t.highest, b.added);
     let at = held_frames::put_run(
         b.log,
         record::contents_in(s),
         t.highest,
-        b.news,
+        b.added,
         out,
         b.size,
     );
@@ -66,14 +66,14 @@ fn send_news(h: Head, s: &mut [u8], t: Token, b: Sent, f: Forwarded, out: &mut [
 
 // 9. Deliver, then let go; the posts that were sent wait no longer; the record is stored. The head has the
 // log and the turn that are left, and the posts that waited. How many bytes are delivered.
-fn leave(h: Head, s: &mut [u8], safe: MessageNumber, news: u8, deliveries: &mut [u8]) -> usize
+fn finish(h: Head, s: &mut [u8], safe: MessageNumber, added: u8, deliveries: &mut [u8]) -> usize
     requires { ⌜
         (length (now s) ≡ recordSize)
         × LogGood (recordIn h (now s) .log)
         × (headerFollows (ringHeader (recordIn h (now s) .log)) ≡ true)
         × (h .log .safe .0 ≤ safe .0)
         × (safe .0 ≤ mostNumber)
-        × (news ≤ h .posts .count)
+        × (added ≤ h .posts .count)
         × (h .posts .count ≤ mostPosts)
         × (mostDeliveries ≤ length (now deliveries)) ⌝ }
     ensures { λ r. ⌜
@@ -82,7 +82,7 @@ fn leave(h: Head, s: &mut [u8], safe: MessageNumber, news: u8, deliveries: &mut 
           own = h .own;
           log = letGo (delivered (recordIn h (now (s .entry)) .log) (safe .0)) (safe .0);
           turn = h .turn;
-          posts = taken (recordIn h (now (s .entry)) .posts) news;
+          posts = taken (recordIn h (now (s .entry)) .posts) added;
         }))
         × (now (deliveries .exit) ≡ followedBy
         (handedOut (recordIn h (now (s .entry)) .log) (safe .0))
@@ -90,10 +90,10 @@ fn leave(h: Head, s: &mut [u8], safe: MessageNumber, news: u8, deliveries: &mut 
 {
     let handed = delivering::hand_out(h.log, record::contents_in(s), safe, deliveries);
     let mark = MessageNumber(h.log.delivered.0 + handed.count);
-    let mut told = h.log;
-    told.delivered = mark;
-    let log = record::let_go_in(told, s, safe);
-    let posts = record::take_oldest_in(h.posts, s, news);
+    let mut marked = h.log;
+    marked.delivered = mark;
+    let log = record::let_go_in(marked, s, safe);
+    let posts = record::take_oldest_in(h.posts, s, added);
     let turn = h.turn;
     let left = Head {
         own: h.own,
@@ -125,7 +125,7 @@ pub fn accept(h: Head, s: &mut [u8], t: Token, frames: &mut [u8], deliveries: &m
 {
     let b = broadcasting::broadcast(h, s, t, frames);
     let f = forwarding::forward(h, s, t, b);
-    let written = send_news(h, s, t, b, f, frames);
+    let written = send_new(h, s, t, b, f, frames);
     let log = b.log;
     let turn = f.turn;
     let posts = h.posts;
@@ -135,10 +135,10 @@ pub fn accept(h: Head, s: &mut [u8], t: Token, frames: &mut [u8], deliveries: &m
         turn,
         posts,
     };
-    let told = leave(left, s, f.safe, b.news as u8, deliveries);
+    let handed = finish(left, s, f.safe, b.added as u8, deliveries);
     Answer::Accepted {
         frames: written as u16,
-        deliveries: told as u16,
+        deliveries: handed as u16,
         deaf: f.deaf,
     }
 }

@@ -6,7 +6,7 @@ mod run;
 mod scan;
 mod word;
 
-pub use count::less;
+pub use count::saturating_sub;
 pub use count::smaller;
 pub use count::smaller_usize;
 pub use run::copy_u16s;

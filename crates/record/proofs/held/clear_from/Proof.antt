@@ -2,7 +2,7 @@ use Prim.Native.Nat.{_+_, _-_, _≤_}
 use mathlib.Core.Path.{_≡_}
 use lib.ListN.{length}
 use borrow.Author.Needs.{needs}
-use Rattle.record.specs.Held.{heldOf, cleared, clearedFrom}
+use Rattle.record.specs.Held.{heldFrom, cleared, clearedFrom}
 use Rattle.record.proofs.HeldSteps.{cleared-none, cleared-more, cleared-all}
 use Rattle.record.proofs.held.clear_from.Statement.{statement}
 use Rattle.record.proofs.held.clear_from.Tie as tie
@@ -12,7 +12,7 @@ abbrev Inv-loop : tie.InvT-loop
 Inv-loop senders₀ services₀ lengths₀ contents₀ first n i₀ zeros senders services lengths contents i =
     (i ≤ n)
     × (length contents ≡ length contents₀)
-    × (clearedFrom (heldOf senders services lengths contents) (first + i) (n - i) ≡ clearedFrom (heldOf senders₀ services₀ lengths₀ contents₀) first n)
+    × (clearedFrom (heldFrom senders services lengths contents) (first + i) (n - i) ≡ clearedFrom (heldFrom senders₀ services₀ lengths₀ contents₀) first n)
 
 abbrev μ-loop : tie.MeasureT-loop
 μ-loop senders₀ services₀ lengths₀ contents₀ first n i₀ zeros senders services lengths contents i = n - i

@@ -15,7 +15,7 @@ abbrev μ-loop : tie.MeasureT-loop
 μ-loop l contents senders many good₀ i₀ good i = mostHeld - i
 
 returns : tie.Need-returns Inv-loop μ-loop
-returns c = level-too-high (logOn (c .before .before .before .before .args .l) (c .before .before .before .before .args .contents .now)) (rw (c .before .less .ensures) at (c .if1 .taken))
+returns c = level-too-high (logOn (c .before .before .before .before .args .l) (c .before .before .before .before .args .contents .now)) (rw (c .before .saturating-sub .ensures) at (c .if1 .taken))
 
 loop-holds : tie.Need-loop-holds Inv-loop μ-loop
 loop-holds c = gathered-starts _ _ _
@@ -25,7 +25,7 @@ loop-again c = rw (c .numbers-before .ensures) (rw zero-add at (gathered-goes _ 
 
 returns-2 : tie.Need-returns-2 Inv-loop μ-loop
 returns-2 c =
-    let few = c .before .before .before .less .ensures in
+    let few = c .before .before .before .saturating-sub .ensures in
     level-by-place (logOn (c .before .before .before .before .before .before .args .l) (c .before .before .before .before .before .before .args .contents .now)) _ (rw few at (c .before .before .if1 .left))
     (rw few at (gathered-ends _ _ _ _ _ (c .before .loop .inv) (c .loop-test .left)))
 

@@ -20,7 +20,7 @@ returns c =
     let start = c .before .before .before .before .before .before .before .before .before .before in
     members-tested (logOn (start .args .h .log) (start .args .contents .now)) (start .args .h .own) (start .args .h .turn) _ _ _
     (c .before .before .senders-are-members .ensures)
-    (c .before .leave-is-good .ensures) (c .foundable-by .ensures)
+    (c .before .resend-passes .ensures) (c .foundable-by .ensures)
 
 pub members-agree-spec : {M : Type 1} → statement M
 members-agree-spec =

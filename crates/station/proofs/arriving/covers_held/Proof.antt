@@ -26,7 +26,7 @@ loop-again c = rw (c .numbers-before .ensures) (rw zero-add at (gathered-goes _ 
 returns-2 : tie.Need-returns-2 Inv-loop μ-loop
 returns-2 c = λ contents.
     covers-by-place (logOn (c .before .before .before .before .before .before .before .args .l) contents) (c .before .before .before .before .before .before .before .args .highest .0) _ (c .before .before .before .before .if1 .left)
-    (rw (c .before .before .less .ensures) at (gathered-ends _ _ _ _ _ (c .before .loop .inv) (c .loop-test .left)))
+    (rw (c .before .before .saturating-sub .ensures) at (gathered-ends _ _ _ _ _ (c .before .loop .inv) (c .loop-test .left)))
 
 pub covers-held-spec : {M : Type 1} → statement M
 covers-held-spec =

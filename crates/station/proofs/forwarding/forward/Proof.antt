@@ -16,7 +16,7 @@ abbrev the-visit : tie.Start → Visit
 the-visit c = visit (recordIn (c .args .h) (c .args .s .now)) (c .args .t)
 
 reaches : (c : tie.Start) (r : Reach)
-    → r ≡ reachAfter (c .args .h .own) (c .args .b .log .level) (record { 0 = c .args .t .highest .0 + c .args .b .news }) (c .args .t .aru) (c .args .t .blocker)
+    → r ≡ reachAfter (c .args .h .own) (c .args .b .log .level) (record { 0 = c .args .t .highest .0 + c .args .b .added }) (c .args .t .aru) (c .args .t .blocker)
     → r ≡ reachOf (the-visit c)
 reaches c r e = reached (the-visit c) (c .pre .0) (c .args .b) (c .pre .1) r _ refl e
 

@@ -25,8 +25,8 @@ hand-out-requires c κs =
     let start = c .before .before .before .before .before .before .before .before .before in
     rw (c .before .contents-in .ensures) (own start .log, own start .header, start .pre .2)
 
-tell-requires : tie.Need-tell-requires
-tell-requires c κs =
+put-heard-requires : tie.Need-put-heard-requires
+put-heard-requires c κs =
     let start = c .before .before .before .before .before .before .before .before .before .before .before .before .before in
     let hands = rw (c .before .before .before .before .before .contents-in .ensures) at (c .before .before .before .hand-out .ensures) in
     (handed-short (start .args .h .log) _ _ _ _ hands (own start), handed-most (start .args .h .log) _ _ _ _ hands (own start), start .pre .1)
@@ -34,7 +34,7 @@ tell-requires c κs =
 returns : tie.Need-returns
 returns c =
     let start = c .before .before .before .before .before .before .before .before .before .before .before .before .before .before .before .before in
-    leaves-told (start .args .h) (start .args .s .now) _ (c .before .before .before .before .before .before .before .before .contents-in .ensures) (start .args .h .log) _ _ _ _ _ (c .before .before .before .before .before .before .hand-out .ensures) (c .before .before .tell .ensures) _ (λ n. Had n)
+    leaves-told (start .args .h) (start .args .s .now) _ (c .before .before .before .before .before .before .before .before .contents-in .ensures) (start .args .h .log) _ _ _ _ _ (c .before .before .before .before .before .before .hand-out .ensures) (c .before .before .put-heard .ensures) _ (λ n. Had n)
     (is-heard-had (the-record start) (start .args .m) (start .args .content .now) _ (c .before .before .before .before .before .before .before .before .before .before .before .is-had .ensures _) (c .before .before .before .before .before .before .before .before .before .before .if1 .taken))
 
 is-ahead-requires : tie.Need-is-ahead-requires
@@ -45,8 +45,8 @@ hand-out-requires-2 c κs =
     let start = c .before .before .before .before .before .before .before .before .before .before .before in
     rw (c .before .contents-in2 .ensures) (own start .log, own start .header, start .pre .2)
 
-tell-requires-2 : tie.Need-tell-requires-2
-tell-requires-2 c κs =
+put-heard-requires-2 : tie.Need-put-heard-requires-2
+put-heard-requires-2 c κs =
     let start = c .before .before .before .before .before .before .before .before .before .before .before .before .before .before .before in
     let hands = rw (c .before .before .before .before .before .contents-in2 .ensures) at (c .before .before .before .hand-out2 .ensures) in
     (handed-short (start .args .h .log) _ _ _ _ hands (own start), handed-most (start .args .h .log) _ _ _ _ hands (own start), start .pre .1)
@@ -54,7 +54,7 @@ tell-requires-2 c κs =
 returns-2 : tie.Need-returns-2
 returns-2 c =
     let start = c .before .before .before .before .before .before .before .before .before .before .before .before .before .before .before .before .before .before in
-    leaves-told (start .args .h) (start .args .s .now) _ (c .before .before .before .before .before .before .before .before .contents-in2 .ensures) (start .args .h .log) _ _ _ _ _ (c .before .before .before .before .before .before .hand-out2 .ensures) (c .before .before .tell2 .ensures) _ (λ n. Ahead n)
+    leaves-told (start .args .h) (start .args .s .now) _ (c .before .before .before .before .before .before .before .before .contents-in2 .ensures) (start .args .h .log) _ _ _ _ _ (c .before .before .before .before .before .before .hand-out2 .ensures) (c .before .before .put-heard2 .ensures) _ (λ n. Ahead n)
     (is-heard-ahead (the-record start) (start .args .m) (start .args .content .now) _ (c .before .before .before .before .before .before .before .before .before .before .before .before .before .is-had .ensures _) (c .before .before .before .before .before .before .before .before .before .before .before .before .if1 .left) _ (c .before .before .before .before .before .before .before .before .before .before .before .is-ahead .ensures (contentsIn (start .args .s .now) logAt)) (c .before .before .before .before .before .before .before .before .before .before .if2 .taken))
 
 keep-requires : tie.Need-keep-requires
@@ -81,8 +81,8 @@ hand-out-kept-requires c κs =
     let w = kept (c .before .before .before .before .before) in
     rw (c .before .contents-in3 .ensures) (w .log, w .header, rw (c .before .before .before .before .before .keep .ensures .0) (just-kept (the-record start) (start .args .m) (start .args .content .now) (start .pre .0)), start .pre .2)
 
-tell-requires-3 : tie.Need-tell-requires-3
-tell-requires-3 c κs =
+put-heard-requires-3 : tie.Need-put-heard-requires-3
+put-heard-requires-3 c κs =
     let start = c .before .before .before .before .before .before .before .before .before .before .before .before .before .before .before .before .before .before .before in
     let hands = rw (c .before .before .before .before .before .contents-in3 .ensures) at (c .before .before .before .hand-out-kept .ensures) in
     (handed-short (c .before .before .before .before .before .before .before .before .before .keep .result) _ _ _ _ hands (kept (c .before .before .before .before .before .before .before .before .before)), handed-most (c .before .before .before .before .before .before .before .before .before .keep .result) _ _ _ _ hands (kept (c .before .before .before .before .before .before .before .before .before)), c .before .before .before .before .before .before .before .before .before .keep .kept .1 .0 ∙ start .pre .1)
@@ -91,13 +91,13 @@ returns-3 : tie.Need-returns-3
 returns-3 c =
     let start = c .before .before .before .before .before .before .before .before .before .before .before .before .before .before .before .before .before .before .before .before .before .before in
     let s = c .before .before .before .before .before .before .before .before .before .before .before .before .keep .last .1 .0 in
-    leaves-told (start .args .h) s _ (c .before .before .before .before .before .before .before .before .contents-in3 .ensures) (c .before .before .before .before .before .before .before .before .before .before .before .before .keep .result) _ _ _ _ _ (c .before .before .before .before .before .before .hand-out-kept .ensures) (c .before .before .tell3 .ensures) _ (λ n. Kept n)
+    leaves-told (start .args .h) s _ (c .before .before .before .before .before .before .before .before .contents-in3 .ensures) (c .before .before .before .before .before .before .before .before .before .before .before .before .keep .result) _ _ _ _ _ (c .before .before .before .before .before .before .hand-out-kept .ensures) (c .before .before .put-heard3 .ensures) _ (λ n. Kept n)
     (is-heard-kept (the-record start) (start .args .m) (start .args .content .now) _ (c .before .before .before .before .before .before .before .before .before .before .before .before .before .before .before .before .before .is-had .ensures _) (c .before .before .before .before .before .before .before .before .before .before .before .before .before .before .before .before .if1 .left) _ (c .before .before .before .before .before .before .before .before .before .before .before .before .before .before .before .is-ahead .ensures (contentsIn (start .args .s .now) logAt)) (c .before .before .before .before .before .before .before .before .before .before .before .before .before .before .if2 .left)
     (recordIn (start .args .h) s) _ (refl, refl, ap (postsOn (start .args .h .posts)) (c .before .before .before .before .before .before .before .before .before .before .before .before .keep .ensures .1)) (c .before .before .before .before .before .before .before .before .before .before .before .before .keep .ensures .0))
 
 pub hear-spec : {M : Type 1} → statement M
 hear-spec =
     tie.close
-    (tie.spec is-had-requires (λ c κs. search needs) hand-out-requires tell-requires (λ c. search needs) (λ c. search needs) returns is-ahead-requires
-    (λ c κs. search needs) hand-out-requires-2 tell-requires-2 (λ c. search needs) (λ c. search needs) returns-2 keep-requires contents-in-requires-3 hand-out-kept-requires
-    tell-requires-3 (λ c. search needs) (λ c. search needs) returns-3)
+    (tie.spec is-had-requires (λ c κs. search needs) hand-out-requires put-heard-requires (λ c. search needs) (λ c. search needs) returns is-ahead-requires
+    (λ c κs. search needs) hand-out-requires-2 put-heard-requires-2 (λ c. search needs) (λ c. search needs) returns-2 keep-requires contents-in-requires-3 hand-out-kept-requires
+    put-heard-requires-3 (λ c. search needs) (λ c. search needs) returns-3)

@@ -2,7 +2,7 @@ use Prim.Native.Nat.{_≤_, _-_}
 use lib.ListN.{length, drop, drop-of-length-le}
 use borrow.Author.Needs.{needs}
 use Rattle.record.specs.Head.{logOn}
-use Rattle.record.specs.Held.{heldOf}
+use Rattle.record.specs.Held.{heldFrom}
 use Rattle.record.specs.declared.log.Log.{Log}
 use Rattle.station.proofs.FrameLaws.{Writable}
 use Rattle.station.proofs.PutFrames.{all-frameable, put-log, Putting, putting-starts, putting-next, putting-goes, putting-ends, from-next}
@@ -11,7 +11,7 @@ use Rattle.station.proofs.held_frames.put_each.Tie as tie
 
 abbrev Inv-loop : tie.InvT-loop
 Inv-loop contents numbers out₀ at senders services lengths header at₀ i₀ out at' i =
-    (i ≤ length numbers) × Putting header (heldOf senders services lengths contents) numbers out₀ at₀ (drop i numbers) out at'
+    (i ≤ length numbers) × Putting header (heldFrom senders services lengths contents) numbers out₀ at₀ (drop i numbers) out at'
 
 abbrev μ-loop : tie.MeasureT-loop
 μ-loop contents numbers out₀ at senders services lengths header at₀ i₀ out at' i = length numbers - i

@@ -1,13 +1,13 @@
 use native.Mathlib.Omega.{arith}
 use borrow.Author.Needs.{needs}
 use Rattle.record.specs.declared.log.Held.{Held}
-use Rattle.record.specs.Held.{heldOf}
+use Rattle.record.specs.Held.{heldFrom}
 use Rattle.station.proofs.PutFrames.{held-content, held-short}
 use Rattle.station.proofs.held_frames.put_held.Statement.{statement}
 use Rattle.station.proofs.held_frames.put_held.Tie as tie
 
 abbrev the-held : tie.Start → Held
-the-held c = heldOf (c .args .senders .now) (c .args .services .now) (c .args .lengths .now) (c .args .contents .now)
+the-held c = heldFrom (c .args .senders .now) (c .args .services .now) (c .args .lengths .now) (c .args .contents .now)
 
 put-message-requires : tie.Need-put-message-requires
 put-message-requires c κs =

@@ -1,7 +1,7 @@
 use Prim.Native.Nat.{_≤_, _-_}
 use borrow.Author.Needs.{needs}
 use Rattle.record.specs.Head.{logOn}
-use Rattle.record.specs.Held.{heldOf}
+use Rattle.record.specs.Held.{heldFrom}
 use Rattle.record.specs.declared.log.Log.{Log}
 use Rattle.station.specs.Visit.{numbersAfter}
 use Rattle.station.proofs.FrameLaws.{Writable}
@@ -11,7 +11,7 @@ use Rattle.station.proofs.held_frames.put_run.Tie as tie
 
 abbrev Inv-loop : tie.InvT-loop
 Inv-loop contents last n out₀ at senders services lengths header at₀ i₀ out at' i =
-    (i ≤ n) × Putting header (heldOf senders services lengths contents) (numbersAfter (last .0) n) out₀ at₀ (runFrom (last .0) n i) out at'
+    (i ≤ n) × Putting header (heldFrom senders services lengths contents) (numbersAfter (last .0) n) out₀ at₀ (runFrom (last .0) n i) out at'
 
 abbrev μ-loop : tie.MeasureT-loop
 μ-loop contents last n out₀ at senders services lengths header at₀ i₀ out at' i = n - i

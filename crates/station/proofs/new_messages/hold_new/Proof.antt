@@ -6,9 +6,9 @@ use Rattle.record.specs.Head.{recordIn, contentsIn, headWith}
 use Rattle.record.specs.Layout.{logAt}
 use Rattle.record.specs.declared.posts.Posts.{Posts}
 use Rattle.record.proofs.RangeFacts.{PostsRange, posts-range}
-use Rattle.station.proofs.HoldNews.{Heading, heading-starts, heading-goes, heading-ends}
-use Rattle.station.proofs.news.hold_news.Statement.{statement}
-use Rattle.station.proofs.news.hold_news.Tie as tie
+use Rattle.station.proofs.HoldNew.{Heading, heading-starts, heading-goes, heading-ends}
+use Rattle.station.proofs.new_messages.hold_new.Statement.{statement}
+use Rattle.station.proofs.new_messages.hold_new.Tie as tie
 
 abbrev Inv-loop : tie.InvT-loop
 Inv-loop h s highest n posts log senders₀ services₀ lengths₀ i₀ senders services lengths i =
@@ -40,7 +40,7 @@ loop-again c =
 returns : tie.Need-returns Inv-loop μ-loop
 returns c = c .head-with .ensures ∙ heading-ends _ _ _ _ _ _ _ _ (c .before .before .loop .inv) (c .before .loop-test .left) (c .before .before .before .before .before .before .before .before .before .pre .1)
 
-pub hold-news-spec : {M : Type 1} → statement M
-hold-news-spec =
+pub hold-new-spec : {M : Type 1} → statement M
+hold-new-spec =
     tie.close
     (tie.spec Inv-loop μ-loop loop-holds (λ c. search needs) (λ c. search needs) (λ c. search needs) (λ c. search needs) (λ c. search needs) (λ c. search needs) (λ c. search needs) element-copy-out-services (λ c. search needs) (λ c. search needs) element-copy-out-lengths (λ c. search needs) (λ c. search needs) (λ c. search needs) loop-again (λ c κs. search needs) returns)

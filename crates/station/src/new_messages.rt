@@ -10,7 +10,7 @@ ghost use Rattle.record.specs.Layout.{recordSize, logAt, postsAt};
 ghost use Rattle.record.specs.Posts.{waiting};
 ghost use Rattle.record.specs.Whole.{postsInRange};
 ghost use Rattle.record.specs.declared.head.LogHead.{LogHead as Head·LogHead};
-ghost use Rattle.station.specs.Visit.{withNews};
+ghost use Rattle.station.specs.Visit.{withSent};
 use frames::MessageNumber;
 use record::Head;
 use record::LogHead;
@@ -18,12 +18,12 @@ use record::PostsHead;
 
 // The head of the log in which the n oldest posts are held, each under the highest number + 1. Ruled out: the
 // newest post first; a number left out.
-pub fn hold_news(h: Head, s: &[u8], highest: MessageNumber, n: u32) -> LogHead
+pub fn hold_new(h: Head, s: &[u8], highest: MessageNumber, n: u32) -> LogHead
     requires { ⌜
         (postsInRange (recordIn h (now s) .posts) ≡ true)
         × (n ≤ h .posts .count)
         × (highest .0 + n ≤ mostNumber) ⌝ }
-    ensures { λ r. ⌜ r ≡ headOf (withNews
+    ensures { λ r. ⌜ r ≡ headOf (withSent
         (recordIn h (now (s .entry)) .log) (h .own) (highest .0)
         (take n (waiting (recordIn h (now (s .entry)) .posts)))) ⌝ }
 {
@@ -54,7 +54,7 @@ pub fn hold_news(h: Head, s: &[u8], highest: MessageNumber, n: u32) -> LogHead
 
 // Their contents go from the posts to where they are held. Ruled out: another post's content; a post's own
 // changed.
-pub fn place_news(s: &mut [u8], posts: PostsHead, highest: MessageNumber, n: u32)
+pub fn place_new(s: &mut [u8], posts: PostsHead, highest: MessageNumber, n: u32)
     requires { ⌜
         (length (now s) ≡ recordSize)
         × (postsInRange (postsOn posts (waitingIn (now s) postsAt)) ≡ true)
@@ -62,7 +62,7 @@ pub fn place_news(s: &mut [u8], posts: PostsHead, highest: MessageNumber, n: u32
         × (highest .0 + n ≤ mostNumber) ⌝ }
     ensures { λ _. ⌜
         ((l : Head·LogHead) (own : ℕ) → contentsIn (now (s .exit)) logAt
-        ≡ withNews (logOn l (contentsIn (now (s .entry)) logAt)) own (highest .0)
+        ≡ withSent (logOn l (contentsIn (now (s .entry)) logAt)) own (highest .0)
         (take n (waiting (postsOn posts (waitingIn (now (s .entry)) postsAt)))) .held .contents)
         × (waitingIn (now (s .exit)) postsAt ≡ waitingIn (now (s .entry)) postsAt) ⌝ }
 {

@@ -27,7 +27,7 @@ use Rattle.record.proofs.WholeFacts.{LogGood}
 use Rattle.station.specs.Reply.{followedBy, mostFrames, mostDeliveries}
 use Rattle.station.specs.Level.{raised}
 use Rattle.station.specs.Deliver.{ringHeader, frameOf, joined, handedOut, delivered}
-use Rattle.station.specs.Visit.{Visit, log, own, posts, withNews, numbersAfter, news, logNow, highest′, safe′, token′, turn′, log′, rec′, deaf, written, accepted}
+use Rattle.station.specs.Visit.{Visit, log, own, posts, withSent, numbersAfter, newNumbers, logNow, highest′, safe′, token′, turn′, log′, rec′, deaf, written, accepted}
 use Rattle.station.specs.EveryArrival.{Acceptable}
 use Rattle.station.specs.Steps.{repeatFrames, newFrames, sentFrames, sentOf, forwardedOf}
 use Rattle.station.specs.declared.answer.Answer.the-variants.{Accepted}
@@ -38,7 +38,7 @@ use Rattle.station.proofs.FrameLaws.{Writable, handed-fits, joined-join
 use Rattle.station.proofs.TokenLaws.{token-short}
 use Rattle.station.proofs.VisitFacts.{facts, token-good, new-posts, new-numbers, now-good, now-new, now-safe, now-ring}
 use Rattle.station.proofs.VisitReads.{repeats-short, sent-short, written-is, written-fits}
-use Rattle.station.proofs.Forward.{sent-log, sent-news, safe-most}
+use Rattle.station.proofs.Forward.{sent-log, sent-added, safe-most}
 
 module _ (v : Visit) (a : Acceptable v) where
   writable : Writable (logNow v)
@@ -59,22 +59,22 @@ module _ (v : Visit) (a : Acceptable v) where
     unfolding sentOf
     sent-size = ap (λ (x : Sent). x .size) sends
 
-    pub take-ready : (b .news ≤ posts v .count) × (posts v .count ≤ mostPosts)
-    take-ready = (omega (arith, sent-news v a b sends, new-posts v), posts-range (posts v) (facts v a .posts) .count)
+    pub take-ready : (b .added ≤ posts v .count) × (posts v .count ≤ mostPosts)
+    take-ready = (omega (arith, sent-added v a b sends, new-posts v), posts-range (posts v) (facts v a .posts) .count)
 
-    pub news-fit : b .news ≤ 16
-    news-fit = omega (arith, take-ready)
+    pub added-fits : b .added ≤ 16
+    added-fits = omega (arith, take-ready)
 
     -- ---- the new messages' contents move
 
-    pub place-ready : (postsInRange (posts v) ≡ true) × (b .news ≤ posts v .count) × (v .token .highest .0 + b .news ≤ mostNumber)
-    place-ready = (facts v a .posts, take-ready .0, omega (arith, sent-news v a b sends, new-numbers v, token-good v a .highest))
+    pub place-ready : (postsInRange (posts v) ≡ true) × (b .added ≤ posts v .count) × (v .token .highest .0 + b .added ≤ mostNumber)
+    place-ready = (facts v a .posts, take-ready .0, omega (arith, sent-added v a b sends, new-numbers v, token-good v a .highest))
 
     pub placed : (contents : List ℕ)
-        → ((l : LogHead) (own : ℕ) → contents ≡ withNews (logOn l (log v .held .contents)) own (v .token .highest .0) (take (b .news) (waiting (posts v))) .held .contents)
+        → ((l : LogHead) (own : ℕ) → contents ≡ withSent (logOn l (log v .held .contents)) own (v .token .highest .0) (take (b .added) (waiting (posts v))) .held .contents)
         → logOn (b .log) contents ≡ logNow v
     unfolding logNow raised
-    placed contents e = rw (sent-log v a b sends, e (headOf (log v)) (own v), sent-news v a b sends)
+    placed contents e = rw (sent-log v a b sends, e (headOf (log v)) (own v), sent-added v a b sends)
 
     -- ---- their frames
 
@@ -83,25 +83,25 @@ module _ (v : Visit) (a : Acceptable v) where
           → mostFrames ≤ long
           → LogGood (logOn (b .log) contents)
           × (headerFollows (ringHeader (logOn (b .log) contents)) ≡ true)
-          × ((k : ℕ) → v .token .highest .0 < k → k ≤ v .token .highest .0 + b .news → holds (logOn (b .log) contents) k ≡ true)
-          × (v .token .highest .0 + b .news ≤ mostNumber)
-          × (b .size + longestMessage * b .news ≤ long)
+          × ((k : ℕ) → v .token .highest .0 < k → k ≤ v .token .highest .0 + b .added → holds (logOn (b .log) contents) k ≡ true)
+          × (v .token .highest .0 + b .added ≤ mostNumber)
+          × (b .size + longestMessage * b .added ≤ long)
       unfolding highest′
       run-ready long enough =
           rw now-is (
             writable .log,
             writable .header,
-            λ k low high. now-new v a k low (omega (arith, sent-news v a b sends)),
+            λ k low high. now-new v a k low (omega (arith, sent-added v a b sends)),
             place-ready .2,
-            omega (arith, sent-size, sent-news v a b sends, repeats-short v a),
+            omega (arith, sent-size, sent-added v a b sends, repeats-short v a),
           )
 
       module _ (at : ℕ) (out out′ : List ℕ)
-          (puts : (at ≡ b .size + length (joined (map (frameOf (logOn (b .log) contents)) (numbersAfter (v .token .highest .0) (b .news)))))
-          × (out′ ≡ sets out (b .size) (joined (map (frameOf (logOn (b .log) contents)) (numbersAfter (v .token .highest .0) (b .news)))))) where
+          (puts : (at ≡ b .size + length (joined (map (frameOf (logOn (b .log) contents)) (numbersAfter (v .token .highest .0) (b .added)))))
+          × (out′ ≡ sets out (b .size) (joined (map (frameOf (logOn (b .log) contents)) (numbersAfter (v .token .highest .0) (b .added)))))) where
         new-put : (at ≡ b .size + length (joined (newFrames v))) × (out′ ≡ sets out (b .size) (joined (newFrames v)))
-        unfolding news
-        new-put = rw (now-is, sent-news v a b sends) at puts
+        unfolding newNumbers
+        new-put = rw (now-is, sent-added v a b sends) at puts
 
         pub token-room : mostFrames ≤ length out → at + longestToken ≤ length out′
         token-room enough =
@@ -164,14 +164,14 @@ module _ (v : Visit) (a : Acceptable v) where
       unfolding forwardedOf
       the-turn = ap (λ (x : Forwarded). x .turn) forwards
 
-      pub leave-ready : LogGood l × (headerFollows (ringHeader l) ≡ true) × (l .safe .0 ≤ f .safe .0) × (f .safe .0 ≤ mostNumber) × (b .news ≤ posts v .count) × (posts v .count ≤ mostPosts)
+      pub finish-ready : LogGood l × (headerFollows (ringHeader l) ≡ true) × (l .safe .0 ≤ f .safe .0) × (f .safe .0 ≤ mostNumber) × (b .added ≤ posts v .count) × (posts v .count ≤ mostPosts)
       unfolding safe′
-      leave-ready =
+      finish-ready =
           let same : l .safe .0 ≡ log v .safe .0 = rw (now-is, now-safe v a) in
           (rw now-is (writable .log), rw now-is (writable .header), omega (arith, forward-safe), omega (arith, forward-safe, safe-most v a), take-ready .0, take-ready .1)
 
-      pub told-fits : (n : ℕ) → n ≡ length (handedOut l (f .safe .0)) → n ≤ mostDeliveries
-      told-fits n e = omega (arith, rw now-is at e, handed-fits (logNow v) writable (f .safe .0))
+      pub size-fits : (n : ℕ) → n ≡ length (handedOut l (f .safe .0)) → n ≤ mostDeliveries
+      size-fits n e = omega (arith, rw now-is at e, handed-fits (logNow v) writable (f .safe .0))
 
       pub left : (written-size told-size : ℕ)
           → written-size ≡ length (joined (written v))
@@ -182,10 +182,10 @@ module _ (v : Visit) (a : Acceptable v) where
 
       pub left-record : (p : Posts)
           → p ≡ posts v
-          → _≡_ {A = Record} (record { own = own v; log = letGo (delivered l (f .safe .0)) (f .safe .0); turn = f .turn; posts = taken p (b .news) }) (accepted v .rec)
+          → _≡_ {A = Record} (record { own = own v; log = letGo (delivered l (f .safe .0)) (f .safe .0); turn = f .turn; posts = taken p (b .added) }) (accepted v .rec)
       unfolding accepted rec′ log′
-      left-record p e = rw (now-is, forward-safe, the-turn, e, sent-news v a b sends)
+      left-record p e = rw (now-is, forward-safe, the-turn, e, sent-added v a b sends)
 
-      pub told : (out out′ : List ℕ) → out′ ≡ followedBy (handedOut l (f .safe .0)) out → out′ ≡ followedBy (accepted v .deliveries) out
+      pub hands-out : (out out′ : List ℕ) → out′ ≡ followedBy (handedOut l (f .safe .0)) out → out′ ≡ followedBy (accepted v .deliveries) out
       unfolding accepted
-      told out out′ e = e ∙ rw (now-is, forward-safe)
+      hands-out out out′ e = e ∙ rw (now-is, forward-safe)

@@ -11,24 +11,24 @@ use Rattle.station.specs.Visit.{Visit, logNow}
 use Rattle.station.specs.EveryArrival.{visit}
 use Rattle.station.proofs.PutFrames.{part-put}
 use Rattle.station.proofs.Leave.{place-ready, placed, run-ready, token-room, token-fits, remembered-room, all-size, all-behind}
-use Rattle.station.proofs.visiting.send_news.Statement.{statement}
-use Rattle.station.proofs.visiting.send_news.Tie as tie
+use Rattle.station.proofs.visiting.send_new.Statement.{statement}
+use Rattle.station.proofs.visiting.send_new.Tie as tie
 
 abbrev the-visit : tie.Start → Visit
 the-visit c = visit (recordIn (c .args .h) (c .args .s .now)) (c .args .t)
 
-place-news-requires : tie.Need-place-news-requires
-place-news-requires c κs =
+place-new-requires : tie.Need-place-new-requires
+place-new-requires c κs =
     let start = c .before .before .before in
     let ready = place-ready (the-visit start) (start .pre .0) _ (start .pre .1) in
     (start .pre .3, ready .0, ready .1, ready .2)
 
 contents-in-requires : tie.Need-contents-in-requires
-contents-in-requires c κs = omega (arith, c .before .before .before .place-news .kept .0, c .before .before .before .before .before .before .before .pre .3)
+contents-in-requires c κs = omega (arith, c .before .before .before .place-new .kept .0, c .before .before .before .before .before .before .before .pre .3)
 
 -- the log that is held once the contents have moved
-moved : (c : tie.After-place-news) → logOn (c .before .before .before .before .args .b .log) (contentsIn (c .place-news .last .0) logAt) ≡ logNow (the-visit (c .before .before .before .before))
-moved c = let start = c .before .before .before .before in placed (the-visit start) (start .pre .0) _ (start .pre .1) _ (c .place-news .ensures .0)
+moved : (c : tie.After-place-new) → logOn (c .before .before .before .before .args .b .log) (contentsIn (c .place-new .last .0) logAt) ≡ logNow (the-visit (c .before .before .before .before))
+moved c = let start = c .before .before .before .before in placed (the-visit start) (start .pre .0) _ (start .pre .1) _ (c .place-new .ensures .0)
 
 put-run-requires : tie.Need-put-run-requires
 put-run-requires c κs =
@@ -67,12 +67,12 @@ returns c =
     let puts = rw (c .before .before .before .before .before .before .before .before .before .contents-in .ensures) at (c .before .before .before .before .before .before .before .put-run .ensures) in (
       all-size v (start .pre .0) _ (start .pre .1) _ (moved (c .before .before .before .before .before .before .before .before .before .before .before .before .before)) _ _ _ puts _ (start .pre .2),
       moved (c .before .before .before .before .before .before .before .before .before .before .before .before .before),
-      c .before .before .before .before .before .before .before .before .before .before .before .before .before .place-news .ensures .1,
+      c .before .before .before .before .before .before .before .before .before .before .before .before .before .place-new .ensures .1,
       all-behind v (start .pre .0) _ (start .pre .1) _ (moved (c .before .before .before .before .before .before .before .before .before .before .before .before .before)) _ _ _ puts _ (start .pre .2) _
           (part-put (remembered (start .args .f .turn)) _ _ _ (remembered-room v (start .pre .0) _ (start .pre .1) _ (moved (c .before .before .before .before .before .before .before .before .before .before .before .before .before)) _ _ _ puts _ (start .pre .2) (start .pre .4)) (c .before .before .before .put-remembered .ensures)),
     )
 
-pub send-news-spec : {M : Type 1} → statement M
-send-news-spec =
+pub send-new-spec : {M : Type 1} → statement M
+send-new-spec =
     tie.close
-    (tie.spec place-news-requires contents-in-requires put-run-requires sub-put-remembered part-put-remembered-start (λ c. search needs) put-remembered-requires (λ c. search needs) add-result (λ c. search needs) (λ c. search needs) returns)
+    (tie.spec place-new-requires contents-in-requires put-run-requires sub-put-remembered part-put-remembered-start (λ c. search needs) put-remembered-requires (λ c. search needs) add-result (λ c. search needs) (λ c. search needs) returns)

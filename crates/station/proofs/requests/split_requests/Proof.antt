@@ -10,8 +10,8 @@ use Rattle.record.specs.Head.{logOn}
 use Rattle.record.specs.Held.{holds}
 use Rattle.station.specs.Steps.{listed}
 use Rattle.station.proofs.ListedLaws.{Gathered, gathered-none, gathered-few, gathered-takes, gathered-leaves, gathered-all}
-use Rattle.station.proofs.requests.sift.Statement.{statement}
-use Rattle.station.proofs.requests.sift.Tie as tie
+use Rattle.station.proofs.requests.split_requests.Statement.{statement}
+use Rattle.station.proofs.requests.split_requests.Tie as tie
 
 abbrev Inv-loop : tie.InvT-loop
 Inv-loop l requests senders held₀ rest₀ repeats₀ left₀ i₀ held rest repeats left i =
@@ -79,7 +79,7 @@ loop-again c = λ contents.
 returns : tie.Need-returns Inv-loop μ-loop
 returns c = λ contents. rw (gathered-all _ _ _ _ (c .before .loop .inv contents .0) (c .loop-test .left), gathered-all _ _ _ _ (c .before .loop .inv contents .1) (c .loop-test .left))
 
-pub sift-spec : {M : Type 1} → statement M
-sift-spec =
+pub split-requests-spec : {M : Type 1} → statement M
+split-requests-spec =
     tie.close
     (tie.spec Inv-loop μ-loop loop-holds (λ c. search needs) (λ c. search needs) (λ c κs. search needs) cast-place mul-held array-write-held add-repeats cast-place-2 mul-rest array-write-rest add-left (λ c. search needs) (λ c. search needs) loop-again returns)

@@ -4,14 +4,14 @@ use native.Mathlib.Omega.{arith}
 use lib.ListN.{drop, drop-of-length-le}
 use borrow.Author.Needs.{needs}
 use Rattle.record.specs.Layout.{recordSize}
-use Rattle.station.proofs.hearing.tell.Statement.{statement}
-use Rattle.station.proofs.hearing.tell.Tie as tie
+use Rattle.station.proofs.hearing.put_heard.Statement.{statement}
+use Rattle.station.proofs.hearing.put_heard.Tie as tie
 
 returns : tie.Need-returns
 returns c =
     let start = c .before .before .before .before .before .before .before .before .before .before in
     let none : drop recordSize (start .args .s .now) ≡ [] = drop-of-length-le (start .args .s .now) {i = recordSize} (omega (arith, start .pre .2)) in
-    (refl, rw (c .before .before .before .before .before .before .leave-ended .ensures, none, append-nil) at (c .before .before .before .put-head .ensures))
+    (refl, rw (c .before .before .before .before .before .before .resend-ended .ensures, none, append-nil) at (c .before .before .before .put-head .ensures))
 
-pub tell-spec : {M : Type 1} → statement M
-tell-spec = tie.close (tie.spec (λ c. search needs) (λ c κs. search needs) (λ c κs. search needs) (λ c. search needs) (λ c. search needs) returns)
+pub put-heard-spec : {M : Type 1} → statement M
+put-heard-spec = tie.close (tie.spec (λ c. search needs) (λ c κs. search needs) (λ c κs. search needs) (λ c. search needs) (λ c. search needs) returns)

@@ -14,7 +14,7 @@ use Rattle.record.specs.declared.head.LogHead.{LogHead}
 use Rattle.record.specs.declared.posts.Posts.{Posts}
 use Rattle.record.proofs.PostLaws.{length-posts, posts-add}
 use Rattle.record.proofs.RangeFacts.{PostsRange}
-use Rattle.station.specs.Visit.{withNews}
+use Rattle.station.specs.Visit.{withSent}
 
 -- the n oldest
 oldest : (p : Posts) (n : ℕ) → n ≤ p .count → take n (waiting p) ≡ postsFrom p 0 n
@@ -55,17 +55,17 @@ abbrev after : LogHead → ℕ → ℕ → Post → LogHead
 after l own place p = headWith l (l .level) (l .safe) (l .delivered) (set (l .senders) place own) (set (l .services) place (p .service)) (set (l .lengths) place (length (p .content)))
 
 -- no content bears on it
-news-head : (l : LogHead) (c c′ : List ℕ) (own highest : ℕ) (ps : List Post) → headOf (withNews (logOn l c) own highest ps) ≡ headOf (withNews (logOn l c′) own highest ps)
-unfolding withNews heldWith
-news-head l c c′ own highest [] = refl
-news-head l c c′ own highest (p ∷ ps) =
+new-head : (l : LogHead) (c c′ : List ℕ) (own highest : ℕ) (ps : List Post) → headOf (withSent (logOn l c) own highest ps) ≡ headOf (withSent (logOn l c′) own highest ps)
+unfolding withSent heldWith
+new-head l c c′ own highest [] = refl
+new-head l c c′ own highest (p ∷ ps) =
     let place = placeOf (suc highest) in
-    news-head (after l own place p) (sets c (mostContent * place) (p .content)) (sets c′ (mostContent * place) (p .content)) own (suc highest) ps
+    new-head (after l own place p) (sets c (mostContent * place) (p .content)) (sets c′ (mostContent * place) (p .content)) own (suc highest) ps
 
 -- of the n oldest posts the first i have their places in the head
 pub record Heading (first : LogHead) (contents : List ℕ) (own highest : ℕ) (p : Posts) (n : ℕ) (l : LogHead) (i : ℕ) : Type 0 where
   pub within : i ≤ n
-  pub rest : headOf (withNews (logOn l contents) own (highest + i) (postsFrom p i (n - i))) ≡ headOf (withNews (logOn first contents) own highest (postsFrom p 0 n))
+  pub rest : headOf (withSent (logOn l contents) own (highest + i) (postsFrom p i (n - i))) ≡ headOf (withSent (logOn first contents) own highest (postsFrom p 0 n))
 
 module _ (first : LogHead) (contents : List ℕ) (own highest : ℕ) (p : Posts) (n : ℕ) where
   pub heading-starts : Heading first contents own highest p n first 0
@@ -78,21 +78,21 @@ module _ (first : LogHead) (contents : List ℕ) (own highest : ℕ) (p : Posts)
         → Heading first contents own highest p n
         (headWith l (l .level) (l .safe) (l .delivered) (set (l .senders) (placeOf (highest + i + 1)) own) (set (l .services) (placeOf (highest + i + 1)) (getD (p .services) i 0)) (set (l .lengths) (placeOf (highest + i + 1)) (getD (p .lengths) i 0)))
         (i + 1)
-    unfolding withNews postsFrom heldWith
+    unfolding withSent postsFrom heldWith
     heading-goes more range few =
         let k = next n highest i more in
         let place = placeOf (suc (highest + i)) in
         let e = postAt p i in
         let long : length (e .content) ≡ getD (p .lengths) i 0 = content-long p i range (omega arith) in
-        let same = news-head (after l own place e) (sets contents (mostContent * place) (e .content)) contents own (suc (highest + i)) (postsFrom p (suc i) (n - suc i)) in
+        let same = new-head (after l own place e) (sets contents (mostContent * place) (e .content)) contents own (suc (highest + i)) (postsFrom p (suc i) (n - suc i)) in
         record { within = omega arith; rest = rw (k .number, k .post, k .highest′, ← long) (sym same ∙ (rw (k .left, k .post) at (so-far .rest))) }
 
 pub heading-ends : (first : LogHead) (contents : List ℕ) (own highest : ℕ) (p : Posts) (n : ℕ) (l : LogHead) (i : ℕ)
     → Heading first contents own highest p n l i
     → n ≤ i
     → n ≤ p .count
-    → l ≡ headOf (withNews (logOn first contents) own highest (take n (waiting p)))
-unfolding withNews postsFrom
+    → l ≡ headOf (withSent (logOn first contents) own highest (take n (waiting p)))
+unfolding withSent postsFrom
 heading-ends first contents own highest p n l i so-far done few =
     let left : n - i ≡ zero = omega arith in
     rw (oldest p n few) (rw left at (so-far .rest))
@@ -100,19 +100,19 @@ heading-ends first contents own highest p n l i so-far done few =
 -- ---- the contents
 
 -- the head has no bearing on them
-news-contents : (l l′ : LogHead) (c : List ℕ) (own highest : ℕ) (ps : List Post)
-    → withNews (logOn l c) own highest ps .held .contents ≡ withNews (logOn l′ c) own highest ps .held .contents
-unfolding withNews heldWith
-news-contents l l′ c own highest [] = refl
-news-contents l l′ c own highest (p ∷ ps) =
+new-contents : (l l′ : LogHead) (c : List ℕ) (own highest : ℕ) (ps : List Post)
+    → withSent (logOn l c) own highest ps .held .contents ≡ withSent (logOn l′ c) own highest ps .held .contents
+unfolding withSent heldWith
+new-contents l l′ c own highest [] = refl
+new-contents l l′ c own highest (p ∷ ps) =
     let place = placeOf (suc highest) in
-    news-contents (after l own place p) (after l′ own place p) (sets c (mostContent * place) (p .content)) own (suc highest) ps
+    new-contents (after l own place p) (after l′ own place p) (sets c (mostContent * place) (p .content)) own (suc highest) ps
 
 -- of the n oldest posts the contents of the first i stand in their places
 pub record Placing (l : LogHead) (own highest : ℕ) (p : Posts) (n : ℕ) (before contents : List ℕ) (i : ℕ) : Type 0 where
   pub within : i ≤ n
-  pub rest : withNews (logOn l contents) own (highest + i) (postsFrom p i (n - i)) .held .contents
-      ≡ withNews (logOn l before) own highest (postsFrom p 0 n) .held .contents
+  pub rest : withSent (logOn l contents) own (highest + i) (postsFrom p i (n - i)) .held .contents
+      ≡ withSent (logOn l before) own highest (postsFrom p 0 n) .held .contents
 
 module _ (l : LogHead) (own highest : ℕ) (p : Posts) (n : ℕ) (before : List ℕ) where
   pub placing-starts : Placing l own highest p n before before 0
@@ -123,20 +123,20 @@ module _ (l : LogHead) (own highest : ℕ) (p : Posts) (n : ℕ) (before : List 
         → i < n
         → contents′ ≡ sets contents (mostContent * placeOf (highest + i + 1)) (postAt p i .content)
         → Placing l own highest p n before contents′ (i + 1)
-    unfolding withNews postsFrom heldWith
+    unfolding withSent postsFrom heldWith
     placing-goes contents′ more e =
         let k = next n highest i more in
         let place = placeOf (suc (highest + i)) in
         let x = postAt p i in
-        let same = news-contents l (after l own place x) (sets contents (mostContent * place) (x .content)) own (suc (highest + i)) (postsFrom p (suc i) (n - suc i)) in
+        let same = new-contents l (after l own place x) (sets contents (mostContent * place) (x .content)) own (suc (highest + i)) (postsFrom p (suc i) (n - suc i)) in
         record { within = omega arith; rest = rw (e, k .number, k .post, k .highest′) (same ∙ (rw (k .left, k .post) at (so-far .rest))) }
 
 pub placing-ends : (l : LogHead) (own highest : ℕ) (p : Posts) (n : ℕ) (before contents : List ℕ) (i : ℕ)
     → Placing l own highest (postsIn n (p .services) (p .lengths) (p .contents)) n before contents i
     → n ≤ i
     → n ≤ p .count
-    → contents ≡ withNews (logOn l before) own highest (take n (waiting p)) .held .contents
-unfolding withNews postsFrom
+    → contents ≡ withSent (logOn l before) own highest (take n (waiting p)) .held .contents
+unfolding withSent postsFrom
 placing-ends l own highest p n before contents i so-far done few =
     let left : n - i ≡ zero = omega arith in
     rw (oldest p n few, ← posts-same p n 0 n) (rw left at (so-far .rest))

@@ -6,8 +6,8 @@ use Rattle.record.specs.Head.{recordIn}
 use Rattle.record.specs.Layout.{recordSize}
 use Rattle.station.proofs.DueCount.{due-fits}
 use Rattle.station.proofs.LeftLaws.{stored-left}
-use Rattle.station.proofs.visiting.leave.Statement.{statement}
-use Rattle.station.proofs.visiting.leave.Tie as tie
+use Rattle.station.proofs.visiting.finish.Statement.{statement}
+use Rattle.station.proofs.visiting.finish.Tie as tie
 
 hand-out-requires : tie.Need-hand-out-requires
 hand-out-requires c κs =
@@ -41,7 +41,7 @@ returns c =
       hands .2,
     )
 
-pub leave-spec : {M : Type 1} → statement M
-leave-spec =
+pub finish-spec : {M : Type 1} → statement M
+finish-spec =
     tie.close
     (tie.spec (λ c κs. search needs) hand-out-requires add-t18 let-go-in-requires take-oldest-in-requires put-head-requires (λ c. search needs) (λ c. search needs) returns)

@@ -20,13 +20,13 @@ use Rattle.record.proofs.RangeFacts.{PostsRange}
 use Rattle.record.proofs.HeldWhole.{EntryGood}
 use Rattle.record.proofs.LogWhole.{not-held}
 use Rattle.record.proofs.WholeFacts.{LogReady}
-use Rattle.station.specs.Visit.{sentBy, withNews}
+use Rattle.station.specs.Visit.{sentBy, withSent}
 use Rattle.station.specs.EveryArrival.{Each}
-use Rattle.station.proofs.NewsLaws.{NewsFit, later-fit}
+use Rattle.station.proofs.NewLaws.{NewFit, later-fit}
 use Rattle.station.proofs.LogSteps.{stored-ready, stored-holds}
 
 -- the first of them
-module _ (l : Log) (own highest : ℕ) (p : Post) (ps : List Post) (g : LogReady l) (fit : NewsFit l own highest (p ∷ ps))
+module _ (l : Log) (own highest : ℕ) (p : Post) (ps : List Post) (g : LogReady l) (fit : NewFit l own highest (p ∷ ps))
     (below : (n : ℕ) → holds l n ≡ true → n ≤ highest) (good : EntryGood (ids l) (sentBy own p)) where
   free : holds l (suc highest) ≡ false
   free = not-held l (suc highest) (λ held. let h = below (suc highest) held in omega arith)
@@ -44,17 +44,17 @@ module _ (l : Log) (own highest : ℕ) (p : Post) (ps : List Post) (g : LogReady
             omega arith
       ]
 
-pub news-ready : (l : Log) (own highest : ℕ) (ps : List Post)
+pub new-ready : (l : Log) (own highest : ℕ) (ps : List Post)
     → LogReady l
-    → NewsFit l own highest ps
+    → NewFit l own highest ps
     → highest + length ps ≤ mostNumber
     → ((n : ℕ) → holds l n ≡ true → n ≤ highest)
     → Each (λ p. EntryGood (ids l) (sentBy own p)) ps
-    → LogReady (withNews l own highest ps)
-unfolding withNews
-news-ready l own highest [] g fit most below good = g
-news-ready l own highest (p ∷ ps) g fit most below good =
-    news-ready (stored l (suc highest) (sentBy own p)) own (suc highest) ps
+    → LogReady (withSent l own highest ps)
+unfolding withSent
+new-ready l own highest [] g fit most below good = g
+new-ready l own highest (p ∷ ps) g fit most below good =
+    new-ready (stored l (suc highest) (sentBy own p)) own (suc highest) ps
     (first-ready l own highest p ps g fit below (good .0) (omega arith))
     (later-fit l own highest p ps fit)
     (omega arith)

@@ -9,9 +9,9 @@ use Rattle.record.specs.Layout.{recordSize, logAt, postsAt}
 use Rattle.record.specs.declared.head.LogHead.{LogHead}
 use Rattle.record.specs.declared.posts.Posts.{Posts}
 use Rattle.record.proofs.RangeFacts.{PostsRange, posts-range}
-use Rattle.station.proofs.HoldNews.{postsIn, Placing, placing-starts, placing-goes, placing-ends}
-use Rattle.station.proofs.news.place_news.Statement.{statement}
-use Rattle.station.proofs.news.place_news.Tie as tie
+use Rattle.station.proofs.HoldNew.{postsIn, Placing, placing-starts, placing-goes, placing-ends}
+use Rattle.station.proofs.new_messages.place_new.Statement.{statement}
+use Rattle.station.proofs.new_messages.place_new.Tie as tie
 
 abbrev Inv-loop : tie.InvT-loop
 Inv-loop s₀ highest n lengths i₀ s i =
@@ -56,7 +56,7 @@ returns c =
     let start = c .before .before .before .before in
     (λ l own. placing-ends l own _ (the-posts start) _ _ _ _ (c .before .loop .inv .2 l own (start .args .posts .services)) (c .loop-test .left) (start .pre .2), c .before .loop .inv .1)
 
-pub place-news-spec : {M : Type 1} → statement M
-place-news-spec =
+pub place-new-spec : {M : Type 1} → statement M
+place-new-spec =
     tie.close
     (tie.spec Inv-loop μ-loop loop-holds (λ c. search needs) array-read-size (λ c. search needs) (λ c. search needs) (λ c. search needs) hold-content-in-requires (λ c. search needs) (λ c. search needs) loop-again same-length returns)
