@@ -71,7 +71,7 @@ fn post(
 }
 
 // What a place can hand out for all broadcasts of one visit.
-const DELIVERIES_ROOM: usize = record::MOST_BROADCASTS * station::MOST_DELIVERIES;
+const DELIVERIES_ROOM: usize = record::MOST_BROADCASTS * visit::MOST_DELIVERIES;
 
 // A frame arrives at a place, and what it writes goes on.
 fn arrive(
@@ -82,7 +82,7 @@ fn arrive(
     records: &mut [u8],
     out: &mut [u8],
 ) -> Bench {
-    let mut frames = [0u8; station::MOST_FRAMES];
+    let mut frames = [0u8; visit::MOST_FRAMES];
     let mut deliveries = [0u8; DELIVERIES_ROOM];
     let r = b.ring;
     let answer = ring::arrive_at(records, place, frame, &mut frames, &mut deliveries);

@@ -20,14 +20,17 @@ use Rattle.record.specs.Ring.{current, ids, thisRing, tokenMembers, isToken, to
 use Rattle.record.specs.declared.log.Log.{Log}
 use Rattle.record.specs.declared.Record.{Record}
 use Rattle.record.proofs.CountLaws.{all-pass}
-use Rattle.station.specs.Reply.{Reply, mostFrames, mostDeliveries}
-use Rattle.station.specs.Visit.{accepted}
-use Rattle.station.specs.Arrive.{coversHeld, tokenArrived, arrived}
-use Rattle.station.specs.Within.{framesIn}
-use Rattle.station.specs.EveryArrival.{Acceptable, ArrivedCase, refuses, hears, accepts, visit}
+use Rattle.station.specs.Reply.{Reply}
+use Rattle.visit.specs.Output.{mostFrames, mostDeliveries}
+use Rattle.station.specs.Arrive.{accepted}
+use Rattle.visit.specs.Acceptable.{coversHeld}
+use Rattle.station.specs.Arrive.{tokenArrived, arrived}
+use Rattle.visit.specs.Within.{framesIn}
+use Rattle.visit.specs.Acceptable.{Acceptable, visit}
+use Rattle.station.specs.EveryArrival.{ArrivedCase, refuses, hears, accepts}
 use Rattle.station.proofs.ArrivedCases.{ReadCase, unread, message, token, read-case, arrived-case}
-use Rattle.station.proofs.TokenLaws.{token-passes}
-use Rattle.station.proofs.VisitReads.{visit-reads}
+use Rattle.visit.proofs.TokenLaws.{token-passes}
+use Rattle.visit.proofs.VisitReads.{visit-reads}
 use Rattle.ordering.specs.Frame as seen
 use Rattle.ring.specs.Calls.{Call, post, arrival, resending, replyTo}
 use Rattle.ring.specs.Log as called

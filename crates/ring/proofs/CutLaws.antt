@@ -11,7 +11,7 @@ use lib.Seq.{take-all, take-nil, length-take-le, drop-drop}
 use Rattle.frames.specs.Layout.{lengthSize}
 use Rattle.frames.specs.Header.{ownSize, framedSize}
 use Rattle.frames.proofs.Sizes.{framed-none}
-use Rattle.station.specs.Within.{framesUpTo, framesIn}
+use Rattle.visit.specs.Within.{framesUpTo, framesIn}
 use Rattle.frames.specs.Read.{readOf}
 use Rattle.frames.specs.declared.refusal.Refusal.{Refusal}
 use Rattle.frames.specs.declared.message.Message.{Message}

@@ -12,7 +12,8 @@ use lib.Seq.{take-at, drop-at, drop-drop}
 use Rattle.frames.specs.Layout.{shortestToken}
 use Rattle.record.specs.Layout.{recordSize}
 use Rattle.station.specs.Answer.{outcomeOf, isTaken}
-use Rattle.station.specs.Reply.{Reply, refused, followedBy, doneOf}
+use Rattle.station.specs.Reply.{Reply, refused, doneOf}
+use Rattle.visit.specs.Output.{followedBy}
 use Rattle.record.specs.Lent.{noRecord}
 use Rattle.record.specs.Fresh.{fresh}
 use Rattle.frames.proofs.Facts.{part}

@@ -19,11 +19,11 @@ use Rattle.frames.proofs.Facts.{message-facts}
 use Rattle.frames.proofs.Rewritten.{message-read, token-read}
 pub use Rattle.frames.proofs.Rewritten.{message-not-token, unread-not-message, unread-not-token}
 use Rattle.record.specs.declared.log.Log.{Log}
-use Rattle.station.specs.Deliver.{ringHeader, messageWith, frameWith, entryOf, frameOf, due, handedOut}
-use Rattle.station.specs.Within.{framesIn}
-use Rattle.station.specs.EveryArrival.{Each, HeldReads}
-use Rattle.station.proofs.FrameLaws.{reads-exact}
-use Rattle.station.proofs.WithinLaws.{frames-within}
+use Rattle.visit.specs.Deliver.{ringHeader, messageWith, frameWith, entryOf, frameOf, due, handedOut}
+use Rattle.visit.specs.Within.{framesIn}
+use Rattle.visit.specs.Reads.{Each, HeldReads}
+use Rattle.visit.proofs.FrameLaws.{reads-exact}
+use Rattle.visit.proofs.WithinLaws.{frames-within}
 use Rattle.ordering.specs.Frame as seen
 use Rattle.record.specs.Ring.{isToken}
 use Rattle.ring.specs.Log.{sameRing}

@@ -15,16 +15,19 @@ use Rattle.record.specs.declared.log.Log.{Log}
 use Rattle.record.specs.declared.turn.Turn.{Turn}
 use Rattle.record.specs.declared.Record.{Record}
 use Rattle.record.proofs.WholeFacts.{whole-good}
-use Rattle.station.specs.Deliver.{ringHeader, due, handedOut, delivered}
-use Rattle.station.specs.Message.{heardAs, resendEnded, logWithMessage, messageHeard}
+use Rattle.visit.specs.Deliver.{ringHeader, due, handedOut, delivered}
+use Rattle.visit.specs.Message.{heardAs, resendEnded, logWithMessage}
+use Rattle.station.specs.Arrive.{messageHeard}
 use Rattle.station.specs.Arrive.{arrived}
-use Rattle.station.specs.Within.{framesIn}
-use Rattle.station.specs.Visit.{accepted}
-use Rattle.station.specs.EveryArrival.{Each, HeldReads, Acceptable, Hearable, ArrivedCase, refuses, hears, accepts, visit}
+use Rattle.visit.specs.Within.{framesIn}
+use Rattle.station.specs.Arrive.{accepted}
+use Rattle.visit.specs.Reads.{Each, HeldReads}
+use Rattle.visit.specs.Acceptable.{Acceptable, Hearable, visit}
+use Rattle.station.specs.EveryArrival.{ArrivedCase, refuses, hears, accepts}
 use Rattle.station.specs.declared.answer.Answer.the-variants.{Kept, Had, Ahead}
 use Rattle.station.proofs.ArrivedCases.{arrived-case}
-use Rattle.station.proofs.FrameLaws.{heard-reads}
-use Rattle.station.proofs.MessageWhole.{Onward, heard-onward}
+use Rattle.visit.proofs.FrameLaws.{heard-reads}
+use Rattle.visit.proofs.MessageWhole.{Onward, heard-onward}
 use Rattle.ordering.specs.Frame as seen
 use Rattle.ordering.specs.Station as abstract
 use Rattle.ordering.specs.Run as ordered

@@ -18,15 +18,15 @@ use Rattle.record.specs.declared.log.Log.{Log}
 use Rattle.record.specs.declared.Record.{Record}
 use Rattle.record.proofs.HeldLaws.{HeldSizes, held-sizes}
 use Rattle.record.proofs.WholeFacts.{LogGood, whole-good}
-use Rattle.station.specs.Level.{reached, levelOf, raised}
-use Rattle.station.specs.Deliver.{ringHeader, frameWith}
-use Rattle.station.specs.Message.{isHad, isAhead, heardAs, entryIn, logWithMessage}
+use Rattle.visit.specs.Level.{reached, levelOf, raised}
+use Rattle.visit.specs.Deliver.{ringHeader, frameWith}
+use Rattle.visit.specs.Message.{isHad, isAhead, heardAs, entryIn, logWithMessage}
 use Rattle.station.specs.declared.answer.Answer.{Answer as Said}
 use Rattle.station.specs.declared.answer.Answer.the-variants.{Kept, Had, Ahead}
-use Rattle.station.proofs.RingFacts.{header-here}
-use Rattle.station.proofs.LevelLaws.{raised-level}
-use Rattle.station.specs.EveryArrival.{Hearable}
-use Rattle.station.proofs.MessageWhole.{Free, kept-free}
+use Rattle.visit.proofs.RingFacts.{header-here}
+use Rattle.visit.proofs.LevelLaws.{raised-level}
+use Rattle.visit.specs.Acceptable.{Hearable}
+use Rattle.visit.proofs.MessageWhole.{Free, kept-free}
 use Rattle.ordering.specs.Frame as seen
 use Rattle.ordering.specs.Station as abstract
 use Rattle.ring.specs.Log.{saidKept}

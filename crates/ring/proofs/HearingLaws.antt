@@ -9,8 +9,9 @@ use lib.Seq.{take-all, take-at, length-take-le, drop-drop, drop-append-add}
 use Rattle.frames.specs.Header.{ownSize}
 use Rattle.frames.specs.Read.{readOf}
 use Rattle.station.specs.Answer.{outcomeOf}
-use Rattle.station.specs.Reply.{Reply, followedBy, mostFrames}
-use Rattle.station.specs.Within.{framesIn}
+use Rattle.station.specs.Reply.{Reply}
+use Rattle.visit.specs.Output.{followedBy, mostFrames}
+use Rattle.visit.specs.Within.{framesIn}
 use Rattle.station.specs.declared.answer.Outcome.{Outcome}
 use Rattle.ring.specs.Stations.{recordAt, withRecord, recordsAfter, arriveAt, isMessage, Heard, hears, hearsMessage, heardSoFar, Reached, hearsAll, heardAt}
 use Rattle.ring.proofs.PlaceLaws.{with-same, at-with, with-with}

@@ -7,8 +7,8 @@ use Rattle.frames.specs.Read.{readOf, aMessage}
 use Rattle.frames.specs.declared.message.Message.{Message}
 use Rattle.record.specs.declared.Record.{Record}
 use Rattle.record.specs.Ring.{current}
-use Rattle.station.specs.Deliver.{ringHeader}
-use Rattle.station.specs.EveryArrival.{Each}
+use Rattle.visit.specs.Deliver.{ringHeader}
+use Rattle.visit.specs.Reads.{Each}
 use Rattle.ordering.specs.Frame as seen
 use Rattle.ordering.specs.Visit.{Choice, Allowed}
 use Rattle.ordering.specs.Run as ordered

@@ -4,7 +4,7 @@ use mathlib.Core.List.{List, _∷_, _++_, map}
 use mathlib.Core.Logic.{_⊎_, inl, inr}
 use mathlib.Core.Option.{some}
 use Prim.Native.Nat.{ℕ}
-use Rattle.station.specs.EveryArrival.{Each}
+use Rattle.visit.specs.Reads.{Each}
 use Rattle.ordering.specs.Frame as seen
 use Rattle.ordering.specs.Lists.{Among}
 use Rattle.ordering.proofs.Base.{some-same, among-append}

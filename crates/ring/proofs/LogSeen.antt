@@ -15,8 +15,8 @@ use Rattle.frames.proofs.Facts.{part}
 use Rattle.frames.specs.declared.header.Header.{Header}
 use Rattle.frames.specs.declared.reader.Answer.{Answer}
 use Rattle.frames.specs.declared.reader.Answer.the-variants.{Refused, IsMessage, IsToken}
-use Rattle.station.specs.Deliver.{joined}
-use Rattle.station.specs.Within.{framesUpTo, framesIn}
+use Rattle.visit.specs.Deliver.{joined}
+use Rattle.visit.specs.Within.{framesUpTo, framesIn}
 pub use Rattle.station.proofs.FrameLaws.{joined-join}
 use Rattle.ordering.specs.Frame as seen
 use Rattle.ordering.specs.Lists.{firstOf}

@@ -8,7 +8,7 @@ use mathlib.Core.Option.{some}
 use lib.Dec.{eqb}
 use Rattle.frames.specs.declared.header.Header.{Header}
 use Rattle.record.specs.Ring.{current}
-use Rattle.station.specs.Deliver.{ringHeader}
+use Rattle.visit.specs.Deliver.{ringHeader}
 use Rattle.ordering.specs.Frame as seen
 use Rattle.ordering.specs.Lists.{Among}
 use Rattle.ordering.specs.Station.{Station}

@@ -13,7 +13,7 @@ use Rattle.record.specs.Members.{membersCounted, idsFollow, ringInRange}
 use Rattle.record.specs.Ring.{current, ids}
 use Rattle.record.specs.Whole.{whole}
 use Rattle.record.specs.declared.Record.{Record}
-use Rattle.station.specs.EveryArrival.{Acceptable, visit}
+use Rattle.visit.specs.Acceptable.{Acceptable, visit}
 use Rattle.ordering.specs.Frame as seen
 use Rattle.ordering.specs.Station.{Station}
 use Rattle.ordering.specs.Log as log

@@ -7,7 +7,7 @@ use mathlib.Core.Option.{Option, none, some}
 use Rattle.record.specs.Ring.{current}
 use Rattle.record.specs.declared.Record.{Record}
 use Rattle.station.specs.Reply.{Reply, refused}
-use Rattle.station.specs.Deliver.{ringHeader}
+use Rattle.visit.specs.Deliver.{ringHeader}
 use Rattle.station.specs.Post.{withPost, posted}
 use Rattle.station.specs.declared.refusal.Refusal.{Refusal}
 use Rattle.station.specs.declared.answer.Answer.the-variants.{Posted}

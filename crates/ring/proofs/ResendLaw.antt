@@ -14,10 +14,11 @@ use Rattle.record.specs.Ring.{current, ids, tokenPasses, isToken}
 use Rattle.record.specs.Whole.{resendPasses, whole}
 use Rattle.record.specs.declared.turn.Turn.{Turn}
 use Rattle.record.specs.declared.Record.{Record}
-use Rattle.station.specs.Reply.{Reply, mostFrames}
+use Rattle.station.specs.Reply.{Reply}
+use Rattle.visit.specs.Output.{mostFrames}
 use Rattle.station.specs.Resend.{resent}
-use Rattle.station.specs.Deliver.{ringHeader}
-use Rattle.station.specs.Within.{framesIn}
+use Rattle.visit.specs.Deliver.{ringHeader}
+use Rattle.visit.specs.Within.{framesIn}
 use Rattle.station.specs.declared.refusal.Refusal.the-variants.{NoRoom, NotWhole, NothingToResend}
 use Rattle.station.specs.declared.answer.Answer.the-variants.{Resent}
 use Rattle.ordering.specs.Run as ordered

@@ -9,9 +9,9 @@ use Rattle.frames.specs.declared.header.Header.{Header}
 use Rattle.record.specs.Ring.{current, isToken}
 use Rattle.record.specs.declared.Record.{Record}
 use Rattle.station.specs.Reply.{Reply}
-use Rattle.station.specs.Deliver.{ringHeader}
-use Rattle.station.specs.Within.{framesUpTo, framesIn}
-use Rattle.station.specs.EveryArrival.{Each}
+use Rattle.visit.specs.Deliver.{ringHeader}
+use Rattle.visit.specs.Within.{framesUpTo, framesIn}
+use Rattle.visit.specs.Reads.{Each}
 pub use Rattle.station.proofs.ReplyLaws.{asked}
 use Rattle.ordering.specs.Frame as seen
 use Rattle.ordering.specs.Station.{Station, Store}

@@ -22,7 +22,7 @@ use Rattle.record.specs.Fresh.{freshHeld, freshLog, freshTurn, fresh}
 use Rattle.record.proofs.ListLaws.{most-zeros}
 use Rattle.record.proofs.FreshLaws.{placed-front}
 use Rattle.station.specs.Reply.{Reply}
-use Rattle.station.specs.Deliver.{ringHeader}
+use Rattle.visit.specs.Deliver.{ringHeader}
 use Rattle.station.specs.Found.{firstToken, founded}
 use Rattle.station.specs.declared.answer.Answer.the-variants.{Founded}
 use Rattle.station.proofs.FoundLaws.{foundable-when, first-follows}

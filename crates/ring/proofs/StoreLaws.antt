@@ -15,8 +15,8 @@ use Rattle.record.specs.Held.{Entry, holds, heldAt, stored, letGo}
 use Rattle.record.specs.declared.log.Log.{Log}
 use Rattle.record.proofs.HeldLaws.{HeldSizes, stored-at, let-go-at, given as entryGiven, holds-is}
 use Rattle.record.proofs.WholeFacts.{LogGood}
-use Rattle.station.specs.Level.{reached, levelOf, raised}
-use Rattle.station.specs.Deliver.{ringHeader, frameWith, entryOf, isAgreed, isDue, dueFrom, due, delivered}
+use Rattle.visit.specs.Level.{reached, levelOf, raised}
+use Rattle.visit.specs.Deliver.{ringHeader, frameWith, entryOf, isAgreed, isDue, dueFrom, due, delivered}
 use Rattle.ordering.specs.Frame as seen
 use Rattle.ordering.specs.Station as abstract
 use Rattle.ring.proofs.View.{messageOf, messageAt, storeOf}

@@ -10,7 +10,7 @@ use lib.ListN.{length}
 use Rattle.frames.specs.declared.header.Header.{Header}
 use Rattle.record.specs.Members.{membersCounted, idsFollow, ringInRange}
 use Rattle.record.specs.Ring.{current}
-use Rattle.station.specs.Deliver.{ringHeader, joined}
+use Rattle.visit.specs.Deliver.{ringHeader, joined}
 use Rattle.ordering.specs.Frame as seen
 use Rattle.ordering.specs.Lists.{Among, Begins, OneBegins}
 use Rattle.ordering.specs.Log as log

@@ -17,8 +17,8 @@ use Rattle.record.specs.Ring.{current, ids}
 use Rattle.record.specs.declared.log.Log.{Log}
 use Rattle.record.specs.declared.turn.Turn.{Turn}
 use Rattle.record.specs.declared.Record.{Record}
-use Rattle.station.specs.Deliver.{isAgreed, frameWith}
-use Rattle.station.specs.Within.{framesIn}
+use Rattle.visit.specs.Deliver.{isAgreed, frameWith}
+use Rattle.visit.specs.Within.{framesIn}
 use Rattle.ordering.specs.Frame as seen
 use Rattle.ordering.specs.Station.{Station, Store}
 use Rattle.ordering.specs.Log as ordered

@@ -11,12 +11,14 @@ use Rattle.frames.specs.declared.reader.Reading.{Reading}
 use Rattle.record.specs.Held.{letGo}
 use Rattle.record.specs.Ring.{current, ids, isToken}
 use Rattle.record.specs.declared.Record.{Record}
-use Rattle.station.specs.Deliver.{ringHeader, delivered}
-use Rattle.station.specs.Visit.{Visit, log, safe′, aru′, level′, logNow, log′, turn′, rec′, written, accepted}
-use Rattle.station.specs.Within.{framesIn}
-use Rattle.station.specs.EveryArrival.{Each, Acceptable}
-use Rattle.station.proofs.VisitFacts.{now-ring, now-ids}
-use Rattle.station.proofs.VisitReads.{visit-reads}
+use Rattle.visit.specs.Deliver.{ringHeader, delivered}
+use Rattle.visit.specs.Visit.{Visit, log, safe′, aru′, level′, logNow, log′, turn′, rec′, written}
+use Rattle.station.specs.Arrive.{accepted}
+use Rattle.visit.specs.Within.{framesIn}
+use Rattle.visit.specs.Reads.{Each}
+use Rattle.visit.specs.Acceptable.{Acceptable}
+use Rattle.visit.proofs.VisitFacts.{now-ring, now-ids}
+use Rattle.visit.proofs.VisitReads.{visit-reads}
 use Rattle.ordering.specs.Log as cable
 use Rattle.ordering.specs.Visit as visit
 use Rattle.ordering.specs.Run as ordered

@@ -13,13 +13,13 @@ use Rattle.frames.specs.declared.token.Blocker.the-variants.{Nobody, Member}
 use Rattle.record.specs.Size.{mostHeld}
 use Rattle.record.specs.Held.{letGo}
 use Rattle.record.proofs.HeldLaws.{held-sizes}
-use Rattle.station.specs.Deliver.{due, delivered}
-use Rattle.station.specs.Visit.{Visit, log, own, repeats, newCount, newNumbers, highest′, logNow, level′, ownOrNobody, setsAru, aru′, blocker′, safe′, token′, log′}
-use Rattle.station.specs.EveryArrival.{Acceptable}
-use Rattle.station.proofs.LevelLaws.{raised-level}
-use Rattle.station.proofs.LogSteps.{level-window}
-use Rattle.station.proofs.EachLaws.{after-length}
-use Rattle.station.proofs.VisitFacts.{facts, withNew, now-good, now-safe, now-delivered}
+use Rattle.visit.specs.Deliver.{due, delivered}
+use Rattle.visit.specs.Visit.{Visit, log, own, repeats, newCount, newNumbers, highest′, logNow, level′, ownOrNobody, setsAru, aru′, blocker′, safe′, token′, log′}
+use Rattle.visit.specs.Acceptable.{Acceptable}
+use Rattle.visit.proofs.LevelLaws.{raised-level}
+use Rattle.visit.proofs.LogSteps.{level-window}
+use Rattle.visit.proofs.EachLaws.{after-length}
+use Rattle.visit.proofs.VisitFacts.{facts, withNew, now-good, now-safe, now-delivered}
 use Rattle.ordering.specs.Frame as seen
 use Rattle.ordering.specs.Station.{Station, levelOf, release}
 use Rattle.ordering.specs.Station as ordered

@@ -9,12 +9,12 @@ use native.Mathlib.Decide.{decLt, ℕ-discrete}
 use native.Mathlib.Omega.{arith}
 use Rattle.record.specs.Held.{holds, heldAt}
 use Rattle.record.specs.declared.log.Log.{Log}
-use Rattle.station.specs.Level.{raised}
-use Rattle.station.specs.Deliver.{ringHeader}
-use Rattle.station.specs.Visit.{Visit, log, own, newCount, numbersAfter, newNumbers, highest′, logNow}
-use Rattle.station.specs.EveryArrival.{Acceptable}
-use Rattle.station.proofs.NewLaws.{new-rest, new-below, new-above}
-use Rattle.station.proofs.VisitFacts.{newPosts, withNew, new-length, new-fit, now-new, now-ring}
+use Rattle.visit.specs.Level.{raised}
+use Rattle.visit.specs.Deliver.{ringHeader}
+use Rattle.visit.specs.Visit.{Visit, log, own, newCount, numbersAfter, newNumbers, highest′, logNow}
+use Rattle.visit.specs.Acceptable.{Acceptable}
+use Rattle.visit.proofs.NewLaws.{new-rest, new-below, new-above}
+use Rattle.visit.proofs.VisitFacts.{newPosts, withNew, new-length, new-fit, now-new, now-ring}
 use Rattle.ordering.specs.Frame as seen
 use Rattle.ordering.specs.Station.{Store, put, putAll}
 use Rattle.ring.proofs.View.{messageAt, storeOf}

@@ -18,9 +18,9 @@ use Rattle.frames.specs.declared.reader.Reading.{Reading}
 use Rattle.frames.proofs.Sizes.{token-fixed-length}
 use Rattle.record.specs.Ring.{ids}
 use Rattle.record.specs.Turn.{mayResend, remembered}
-use Rattle.station.specs.Visit.{Visit, log, own, nextIn, token′, turn′, highest′, aru′, blocker′}
-use Rattle.station.specs.EveryArrival.{Acceptable}
-use Rattle.station.proofs.TokenLaws.{token-reads}
+use Rattle.visit.specs.Visit.{Visit, log, own, nextIn, token′, turn′, highest′, aru′, blocker′}
+use Rattle.visit.specs.Acceptable.{Acceptable}
+use Rattle.visit.proofs.TokenLaws.{token-reads}
 use Rattle.ordering.specs.Frame as seen
 use Rattle.ordering.specs.Visit as visit
 use Rattle.ring.proofs.View.{seenBlocker, seenToken, tokenIn, leaveOf, stationSeen}

@@ -12,13 +12,14 @@ use Rattle.frames.specs.Read.{readOf}
 use Rattle.frames.specs.declared.header.Header.{Header}
 use Rattle.frames.specs.declared.reader.Reading.{Reading}
 use Rattle.record.specs.declared.log.Log.{Log}
-use Rattle.station.specs.Deliver.{ringHeader, frameOf}
-use Rattle.station.specs.Visit.{Visit, log, repeats, numbersAfter, newCount, newNumbers, logNow, token′, written}
-use Rattle.station.specs.EveryArrival.{Each, HeldReads, Acceptable}
-use Rattle.station.proofs.EachLaws.{each-append}
-use Rattle.station.proofs.VisitFacts.{new-window, now-ring}
-use Rattle.station.proofs.TokenLaws.{token-reads}
-use Rattle.station.proofs.VisitReads.{visit-reads}
+use Rattle.visit.specs.Deliver.{ringHeader, frameOf}
+use Rattle.visit.specs.Visit.{Visit, log, repeats, numbersAfter, newCount, newNumbers, logNow, token′, written}
+use Rattle.visit.specs.Reads.{Each, HeldReads}
+use Rattle.visit.specs.Acceptable.{Acceptable}
+use Rattle.visit.proofs.EachLaws.{each-append}
+use Rattle.visit.proofs.VisitFacts.{new-window, now-ring}
+use Rattle.visit.proofs.TokenLaws.{token-reads}
+use Rattle.visit.proofs.VisitReads.{visit-reads}
 use Rattle.ordering.specs.Lists.{Among}
 use Rattle.ordering.specs.Frame as seen
 use Rattle.ordering.specs.Visit as visit

@@ -14,7 +14,7 @@ use Rattle.frames.specs.declared.reader.Answer.the-variants.{Refused, IsMessage
 use Rattle.record.specs.Ring.{isToken}
 use Rattle.station.specs.Answer.{outcomeOf}
 use Rattle.station.specs.Reply.{Reply}
-use Rattle.station.specs.Within.{framesIn}
+use Rattle.visit.specs.Within.{framesIn}
 use Rattle.station.specs.declared.answer.Answer.{Answer as Said}
 use Rattle.ordering.specs.Lists.{Among, firstOf}
 use Rattle.ring.specs.Calls.{Call, post, arrival, resending, placeOf}

@@ -7,7 +7,7 @@ use mathlib.Core.List.{List, [], _∷_}
 use lib.ListN.{length, getD}
 use Rattle.frames.specs.Number.{mostNumber}
 use Rattle.frames.specs.Read.{readOf}
-use Rattle.station.specs.Reply.{mostFrames, mostDeliveries}
+use Rattle.visit.specs.Output.{mostFrames, mostDeliveries}
 use Rattle.ring.specs.Calls.{Call, arrival}
 use Rattle.ring.specs.Log.{Entry, writtenBy, accepted}
 use Rattle.ring.specs.Run.{firstFrame}

@@ -11,7 +11,7 @@ use Rattle.frames.specs.Read.{readOf}
 use Rattle.frames.specs.Trials.{same}
 use Rattle.frames.specs.declared.reader.Answer.{Answer}
 use Rattle.frames.specs.declared.reader.Answer.the-variants.{Refused, IsMessage, IsToken}
-use Rattle.station.specs.Reply.{mostFrames, mostDeliveries}
+use Rattle.visit.specs.Output.{mostFrames, mostDeliveries}
 use Rattle.ring.specs.Calls.{Call, post, arrival, replyTo}
 use Rattle.ring.specs.Log.{Entry, Written, place, writtenBy, reading, deliveryList, handedBy, accepted}
 use Rattle.ring.specs.Run.{Ring, records, firstFrame, ringOf, start, run}

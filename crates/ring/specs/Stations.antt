@@ -11,8 +11,9 @@ use Rattle.frames.specs.declared.reader.Answer.{Answer}
 use Rattle.frames.specs.declared.reader.Answer.the-variants.{Refused, IsMessage, IsToken}
 use Rattle.record.specs.Layout.{recordSize}
 use Rattle.record.specs.Lent.{noRecord}
-use Rattle.station.specs.Reply.{Reply, refused, doneOf, followedBy, mostFrames}
-use Rattle.station.specs.Within.{framesIn}
+use Rattle.station.specs.Reply.{Reply, refused, doneOf}
+use Rattle.visit.specs.Output.{followedBy, mostFrames}
+use Rattle.visit.specs.Within.{framesIn}
 use Rattle.station.specs.declared.refusal.Refusal.the-variants.{NoRoom}
 use Rattle.station.specs.Answer.{isTaken}
 use Rattle.totem.specs.Over.{idsIn, stationAfter, foundOver, postOver, arriveOver}

@@ -6,8 +6,8 @@ ghost use mathlib.Core.List.{[]};
 ghost use lib.ListN.{length, take};
 ghost use Rattle.frames.specs.Header.{ownSize};
 ghost use Rattle.frames.specs.Read.{readOf};
-ghost use Rattle.station.specs.Reply.{followedBy};
-ghost use Rattle.station.specs.Within.{framesIn};
+ghost use Rattle.visit.specs.Output.{followedBy};
+ghost use Rattle.visit.specs.Within.{framesIn};
 ghost use Rattle.ring.specs.Newest.{lastOf};
 ghost use Rattle.ring.specs.Stations.{withRecord, isMessage, Reached, heardAt};
 use crate::stations;
@@ -64,7 +64,7 @@ fn hear(records: &mut [u8], place: usize, frame: &[u8], deliveries: &mut [u8], a
     if !is_message(frame) {
         return at;
     }
-    let mut frames = [0u8; station::MOST_FRAMES];
+    let mut frames = [0u8; visit::MOST_FRAMES];
     let heard = stations::arrive_at(records, place, frame, &mut frames, &mut deliveries[at..]);
     at + heard.deliveries as usize
 }

@@ -5,7 +5,7 @@ ghost use mathlib.Core.List.{List};
 ghost use lib.ListN.{length, getD};
 ghost use Rattle.record.specs.Layout.{recordSize};
 ghost use Rattle.station.specs.Answer.{outcomeOf};
-ghost use Rattle.station.specs.Reply.{followedBy};
+ghost use Rattle.visit.specs.Output.{followedBy};
 ghost use Rattle.totem.specs.Over.{idsIn, foundOver};
 ghost use Rattle.ring.specs.Stations.{recordAt, recordsAfter, ringFounded, foundedUpTo, ringAfter};
 use crate::members;

@@ -5,7 +5,7 @@ ghost use Prim.Native.Nat.{_+_, _*_, min};
 ghost use lib.ListN.{length};
 ghost use Rattle.record.specs.Layout.{recordSize};
 ghost use Rattle.station.specs.Answer.{outcomeOf};
-ghost use Rattle.station.specs.Reply.{followedBy};
+ghost use Rattle.visit.specs.Output.{followedBy};
 ghost use Rattle.ring.specs.Stations.{recordsAfter, postAt, arriveAt};
 use station::Outcome;
 

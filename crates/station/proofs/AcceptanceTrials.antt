@@ -21,12 +21,15 @@ use Rattle.record.specs.Whole.{heldInRange, numbersInRange, logInRange, turnInR
 use Rattle.station.specs.Found.{firstToken, founded}
 use Rattle.station.specs.Post.{posted}
 use Rattle.station.specs.Resend.{resent}
-use Rattle.station.specs.Level.{reached, levelOf, raised}
-use Rattle.station.specs.Deliver.{frameWith, dueFrom, due, delivered}
-use Rattle.station.specs.Message.{isHad, logWithMessage, resendEnded, messageHeard}
-use Rattle.station.specs.Visit.{others, allowance, those, requests, repeats, unanswered, newCount, withSent, numbersAfter, newNumbers, highest′, logNow, setsAru, aru′, blocker′, stall′, deaf, safe′, missing, requests′, broadcasts, round′, nextIn, token′, turn′, log′, rec′, written, accepted}
-use Rattle.station.specs.Arrive.{coversHeld, messageArrived, tokenArrived, arrived}
-use Rattle.station.specs.Within.{framesUpTo, framesIn}
+use Rattle.visit.specs.Level.{reached, levelOf, raised}
+use Rattle.visit.specs.Deliver.{frameWith, dueFrom, due, delivered}
+use Rattle.visit.specs.Message.{isHad, logWithMessage, resendEnded}
+use Rattle.station.specs.Arrive.{messageHeard}
+use Rattle.visit.specs.Visit.{others, allowance, those, requests, repeats, unanswered, newCount, withSent, numbersAfter, newNumbers, highest′, logNow, setsAru, aru′, blocker′, stall′, deaf, safe′, missing, requests′, broadcasts, round′, nextIn, token′, turn′, log′, rec′, written}
+use Rattle.station.specs.Arrive.{accepted}
+use Rattle.visit.specs.Acceptable.{coversHeld}
+use Rattle.station.specs.Arrive.{messageArrived, tokenArrived, arrived}
+use Rattle.visit.specs.Within.{framesUpTo, framesIn}
 use Rattle.station.specs.Sample.{Trial, sendersTo, withPosts}
 use Rattle.station.specs.ArrivalTrials.{hearing, visiting, entering}
 use Rattle.station.specs.Trials.{calling, table, allPass}

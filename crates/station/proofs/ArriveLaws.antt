@@ -19,54 +19,62 @@ use Rattle.frames.specs.declared.token.Token.{Token}
 use Rattle.frames.specs.declared.reader.Reading.{Reading}
 use Rattle.frames.specs.declared.reader.Answer.the-variants.{Refused as Unreadable, IsMessage, IsToken}
 use Rattle.frames.proofs.Facts.{part}
+use Rattle.record.specs.Layout.{recordSize}
 use Rattle.record.specs.Bytes.{recordBytes}
 use Rattle.record.specs.Head.{recordIn}
+use Rattle.record.specs.Lent.{lent}
 use Rattle.record.specs.Members.{isMember}
 use Rattle.record.specs.Ring.{current, ids, thisRing, tokenMembers}
 use Rattle.record.specs.Whole.{whole}
 use Rattle.record.specs.declared.head.Head.{Head}
 use Rattle.record.specs.declared.Record.{Record}
 use Rattle.record.proofs.WholeFacts.{whole-good}
-use Rattle.station.specs.Reply.{Reply, refused, asks, followedBy, mostFrames, mostDeliveries}
-use Rattle.station.specs.Message.{messageHeard}
-use Rattle.station.specs.Visit.{accepted}
-use Rattle.station.specs.Arrive.{readerRefusal, coversHeld, messageArrived, tokenArrived, frameArrived, arrived}
-use Rattle.station.specs.EveryArrival.{visit}
-use Rattle.station.specs.Steps.{HeadIn}
+use Rattle.visit.specs.Output.{followedBy, mostFrames, mostDeliveries}
+use Rattle.visit.specs.Deliver.{joined}
+use Rattle.visit.specs.Message.{recHeard, handedHeard, heardOf}
+use Rattle.visit.specs.Visit.{Visit, rec′, written, handed, visitedOf}
+use Rattle.visit.specs.Acceptable.{coversHeld, visit}
+use Rattle.visit.specs.declared.hearing.Heard.{Heard}
+use Rattle.visit.specs.declared.hearing.Hearing.{Hearing}
+use Rattle.visit.specs.declared.hearing.Hearing.the-variants.{WasHad, IsAhead, IsKept}
+use Rattle.visit.specs.declared.visiting.Visited.{Visited}
+use Rattle.station.specs.Answer.{isTaken}
+use Rattle.station.specs.Reply.{Reply, refused, asks, answered, Does}
+use Rattle.station.specs.Arrive.{readerRefusal, heardAnswer, messageHeard, accepted, messageArrived, tokenArrived, frameArrived, arrived}
+use Rattle.station.specs.Over.{arriveOver}
+use Rattle.station.specs.inner.Value.{HeadIn}
 use Rattle.station.specs.declared.answer.Answer.{Answer}
-use Rattle.station.specs.declared.answer.Answer.the-variants.{Refused}
+use Rattle.station.specs.declared.answer.Answer.the-variants.{Accepted}
 use Rattle.station.specs.declared.refusal.Refusal.{Refusal}
 use Rattle.station.specs.declared.refusal.Refusal.the-variants.{NoRoom, NotWhole, OtherRing, NotMember, OtherAddressee, OldToken, LastToken, BelowHeld}
+use Rattle.station.proofs.DoesLaws.{takes}
+use Rattle.station.proofs.LentLaws.{whole-long}
 use Rattle.station.proofs.ReplyLaws.{asked}
 use Rattle.station.proofs.ArrivedCases.{ReadCase, unread, message, token, read-case}
 
--- ---- of a call on lent bytes with a buffer for deliveries, or for frames and deliveries, once it is known what the reply is
+-- ---- a message that is heard, a token that is accepted
 
-pub leaves-deliveries : (reply known : Reply) (a : Answer) (s′ out out′ : List ℕ)
-    → reply ≡ known
-    → (a ≡ known .answer) × (s′ ≡ recordBytes (known .rec)) × (out′ ≡ followedBy (known .deliveries) out)
-    → (a ≡ reply .answer) × (s′ ≡ recordBytes (reply .rec)) × (out′ ≡ followedBy (reply .deliveries) out)
-leaves-deliveries reply known a s′ out out′ e l = rw e l
+heard-taken : (how : Hearing) (n : ℕ) → isTaken (heardAnswer how n) ≡ true
+heard-taken WasHad n = refl
+heard-taken IsAhead n = refl
+heard-taken IsKept n = refl
 
-pub refuses-deliveries : (reply : Reply) (h : Head) (s out : List ℕ) (why : Refusal)
-    → HeadIn h s
-    → reply ≡ refused (recordIn h s) why
-    → (Refused why ≡ reply .answer) × (s ≡ recordBytes (reply .rec)) × (out ≡ followedBy (reply .deliveries) out)
-refuses-deliveries reply h s out why there e = (sym (ap (λ (x : Reply). x .answer) e), there .bytes ∙ sym (ap (λ (x : Reply). recordBytes (x .rec)) e), sym (ap (λ (x : Reply). followedBy (x .deliveries) out) e))
+pub heard-does : (r : Record) (m : Message) (content : List ℕ) (heard : Heard) (a : Answer) (s s′ out out′ : List ℕ)
+    → length s ≡ recordSize
+    → (heard ≡ heardOf r m content) × (s′ ≡ recordBytes (recHeard r m content)) × (out′ ≡ followedBy (handedHeard r m content) out)
+    → a ≡ heardAnswer (heard .how) (heard .size)
+    → Does answered (messageHeard r m content) a s s′ [] [] out out′
+unfolding messageHeard
+heard-does r m content heard a s s′ out out′ long e says =
+    takes (messageHeard r m content) a s s′ [] [] out out′ (heard-taken (heardOf r m content .how) (heardOf r m content .size)) long (says ∙ ap (λ (x : Heard). heardAnswer (x .how) (x .size)) (e .0)) (e .1) refl (e .2)
 
-pub leaves-both : (reply known : Reply) (a : Answer) (s′ frames frames′ out out′ : List ℕ)
-    → reply ≡ known
-    → (a ≡ known .answer) × (s′ ≡ recordBytes (known .rec)) × (frames′ ≡ followedBy (known .frames) frames) × (out′ ≡ followedBy (known .deliveries) out)
-    → (a ≡ reply .answer) × (s′ ≡ recordBytes (reply .rec)) × (frames′ ≡ followedBy (reply .frames) frames) × (out′ ≡ followedBy (reply .deliveries) out)
-leaves-both reply known a s′ frames frames′ out out′ e l = rw e l
-
-pub refuses-both : (reply : Reply) (h : Head) (s frames out : List ℕ) (why : Refusal)
-    → HeadIn h s
-    → reply ≡ refused (recordIn h s) why
-    → (Refused why ≡ reply .answer) × (s ≡ recordBytes (reply .rec)) × (frames ≡ followedBy (reply .frames) frames) × (out ≡ followedBy (reply .deliveries) out)
-refuses-both reply h s frames out why there e =
-    let l = refuses-deliveries reply h s out why there e in
-    (l .0, l .1, sym (ap (λ (x : Reply). followedBy (x .frames) frames) e), l .2)
+pub accepted-does : (v : Visit) (visited : Visited) (s s′ frames frames′ out out′ : List ℕ)
+    → length s ≡ recordSize
+    → (visited ≡ visitedOf v) × (s′ ≡ recordBytes (rec′ v)) × (frames′ ≡ followedBy (joined (written v)) frames) × (out′ ≡ followedBy (handed v) out)
+    → Does answered (accepted v) (Accepted (visited .frames) (visited .deliveries) (visited .deaf)) s s′ frames frames′ out out′
+unfolding accepted
+accepted-does v visited s s′ frames frames′ out out′ long e =
+    takes (accepted v) _ s s′ frames frames′ out out′ refl long (ap (λ (x : Visited). Accepted (x .frames) (x .deliveries) (x .deaf)) (e .0)) (e .1) (e .2) (e .3)
 
 -- ---- the members, as the code spells them
 
@@ -105,19 +113,11 @@ module _ (r : Record) (m : Message) (content : List ℕ) where
     message-passes f = rw (this, f)
 
   -- a message writes nothing for the cable
-  no-frames : messageArrived r m content .frames ≡ []
+  pub writes-none : messageArrived r m content .frames ≡ []
   unfolding messageArrived messageHeard
-  no-frames =
+  writes-none =
       asked (λ reply. reply .frames ≡ []) r (thisRing (current r .ring .0) (ids (current r)) (m .header)) OtherRing _ refl (λ this.
       asked (λ reply. reply .frames ≡ []) r (isMember (ids (current r)) (m .sender)) NotMember _ refl (λ member. refl))
-
-  pub leaves-frames : (reply : Reply) (a : Answer) (s′ frames out out′ : List ℕ)
-      → reply ≡ messageArrived r m content
-      → (a ≡ messageArrived r m content .answer) × (s′ ≡ recordBytes (messageArrived r m content .rec)) × (out′ ≡ followedBy (messageArrived r m content .deliveries) out)
-      → (a ≡ reply .answer) × (s′ ≡ recordBytes (reply .rec)) × (frames ≡ followedBy (reply .frames) frames) × (out′ ≡ followedBy (reply .deliveries) out)
-  leaves-frames reply a s′ frames out out′ e l =
-      let same : frames ≡ followedBy (messageArrived r m content .frames) frames = rw no-frames in
-      rw e (l .0, l .1, same, l .2)
 
 -- ---- 13 to 18, of a token
 
@@ -226,3 +226,22 @@ module _ (r : Record) (frame : List ℕ) (frames deliveries : ℕ) where
     leb-true mostFrames frames (part e (λ (f : leb mostFrames frames ≡ false). rw f)),
     leb-true mostDeliveries deliveries (part e (λ (f : leb mostDeliveries deliveries ≡ false). simp (f, and-false))),
   )
+
+-- ---- in lent bytes
+
+module _ (s frame : List ℕ) (frames deliveries : ℕ) where
+  pub over-roomless : fits (lent s) frame frames deliveries ≡ false → arriveOver s frame frames deliveries ≡ refused (lent s) NoRoom
+  unfolding arriveOver
+  over-roomless e = arrived-roomless (lent s) frame frames deliveries e
+
+  pub over-not-whole : fits (lent s) frame frames deliveries ≡ true → whole (lent s) ≡ false → arriveOver s frame frames deliveries ≡ refused (lent s) NotWhole
+  unfolding arriveOver arrived
+  over-not-whole e w = rw (e, w)
+
+  pub over-passes : (h : Head) → recordIn h s ≡ lent s → fits (lent s) frame frames deliveries ≡ true → whole (lent s) ≡ true → arriveOver s frame frames deliveries ≡ frameArrived (recordIn h s) frame (readOf frame)
+  unfolding arriveOver
+  over-passes h its e w = arrived-passes (lent s) frame frames deliveries e w ∙ ap (λ (r : Record). frameArrived r frame (readOf frame)) (sym its)
+
+-- the head that was looked at, in the bytes of a whole record
+pub head-there : (s : List ℕ) (h : Head) → whole (lent s) ≡ true → recordIn h s ≡ lent s → HeadIn h s
+head-there s h w its = record { whole-record = rw its w; size = whole-long s w }

@@ -21,8 +21,10 @@ use Rattle.record.specs.Members.{isMember}
 use Rattle.record.specs.Ring.{current, ids, thisRing, tokenMembers}
 use Rattle.record.specs.Whole.{whole}
 use Rattle.record.specs.declared.Record.{Record}
-use Rattle.station.specs.Reply.{Reply, asks, mostFrames, mostDeliveries}
-use Rattle.station.specs.Arrive.{readerRefusal, coversHeld, messageArrived, tokenArrived, frameArrived, arrived}
+use Rattle.station.specs.Reply.{Reply, asks}
+use Rattle.visit.specs.Output.{mostFrames, mostDeliveries}
+use Rattle.station.specs.Arrive.{readerRefusal, messageArrived, tokenArrived, frameArrived, arrived}
+use Rattle.visit.specs.Acceptable.{coversHeld}
 use Rattle.station.specs.EveryArrival.{ArrivedCase, refuses, hears, accepts, ArrivedCases}
 use Rattle.station.specs.declared.refusal.Refusal.{Refusal}
 use Rattle.station.specs.declared.refusal.Refusal.the-variants.{NoRoom, NotWhole, OtherRing, NotMember, OtherAddressee, OldToken, LastToken, BelowHeld}

@@ -11,35 +11,37 @@ use Rattle.record.specs.Ring.{current}
 use Rattle.record.specs.declared.Record.{Record}
 use Rattle.station.specs.Answer.{outcomeOf}
 use Rattle.station.specs.Reply.{Reply}
-use Rattle.station.specs.Deliver.{handedOut}
-use Rattle.station.specs.Message.{isHad, isAhead, logWithMessage, messageHeard}
-use Rattle.station.specs.Visit.{Visit, accepted}
+use Rattle.visit.specs.Message.{heardOf}
+use Rattle.station.specs.Arrive.{heardAnswer, messageHeard}
+use Rattle.visit.specs.Visit.{Visit}
+use Rattle.station.specs.Arrive.{accepted}
 use Rattle.station.specs.EveryReply.{Good}
-use Rattle.station.specs.EveryArrival.{Acceptable, ArrivedGood, Hearable, visit, ArrivedCase, refuses, hears, accepts}
+use Rattle.visit.specs.Acceptable.{Acceptable, Hearable, visit}
+use Rattle.station.specs.EveryArrival.{ArrivedGood, ArrivedCase, refuses, hears, accepts}
 use Rattle.station.specs.Arrive.{arrived}
 use Rattle.station.specs.declared.answer.Answer.{Answer}
-use Rattle.station.specs.declared.answer.Answer.the-variants.{Kept, Had, Ahead}
+use Rattle.visit.specs.declared.hearing.Hearing.{Hearing}
+use Rattle.visit.specs.declared.hearing.Hearing.the-variants.{WasHad, IsAhead, IsKept}
 use Rattle.station.proofs.ReplyGood.{refused-good, taken-good}
 use Rattle.station.proofs.ArrivedCases.{arrived-case}
-use Rattle.station.proofs.MessageWhole.{heard-whole}
-use Rattle.station.proofs.VisitWhole.{accepted-whole}
+use Rattle.visit.proofs.MessageWhole.{heard-whole}
+use Rattle.visit.proofs.VisitWhole.{accepted-whole}
 
 -- had, ahead or kept: an outcome with no frame
-record Told (n : ℕ) (answer : Answer) : Type 0 where
+record Outcomes (n : ℕ) (answer : Answer) : Type 0 where
   some : 0 < outcomeOf answer .outcome
   frames : outcomeOf answer .frames ≡ 0
   deliveries : outcomeOf answer .deliveries ≡ n
 
-told : (had ahead : Bool) (n : ℕ) → Told n (cond had (Had n) (cond ahead (Ahead n) (Kept n)))
-told true ahead n = record { some = omega arith; frames = refl; deliveries = refl }
-told false true n = record { some = omega arith; frames = refl; deliveries = refl }
-told false false n = record { some = omega arith; frames = refl; deliveries = refl }
+outcomes : (how : Hearing) (n : ℕ) → Outcomes n (heardAnswer how n)
+outcomes WasHad n = record { some = omega arith; frames = refl; deliveries = refl }
+outcomes IsAhead n = record { some = omega arith; frames = refl; deliveries = refl }
+outcomes IsKept n = record { some = omega arith; frames = refl; deliveries = refl }
 
 heard-good : (r : Record) (m : Message) (content : List ℕ) → Hearable r m content → Good r (messageHeard r m content)
 unfolding messageHeard
 heard-good r m content h =
-    let l = logWithMessage (current r) m content in
-    let t = told (isHad (current r) (m .number .0)) (isAhead (current r) (m .number .0)) (length (handedOut l (l .safe .0))) in
+    let t = outcomes (heardOf r m content .how) (heardOf r m content .size) in
     taken-good r (messageHeard r m content) (t .some) (t .frames, t .deliveries) (λ w. heard-whole r m content w (h .follows) (h .member))
 
 accepted-good : (v : Visit) → Acceptable v → Good (v .rec) (accepted v)

@@ -1,72 +1,72 @@
--- Founding: refused by 1 or 3 to 6, or taken; and the ring's first token.
-use Prim.Native.Nat.{ℕ, _≤_}
+-- Founding, question by question; and the ring's first token.
+use Prim.Native.Nat.{ℕ, _<_, _≤_}
 use mathlib.Core.Path.{_≡_, refl, sym, _∙_}
-use mathlib.Core.Bool.{Bool, true, false, false≢true, and-false, cond}
-use mathlib.Core.List.{List, [], _∷_}
-use borrow.Author.Tests.{le-leb, leb-true}
+use mathlib.Core.Bool.{Bool, true, false, and-false, cond}
+use mathlib.Core.List.{List, [], _∷_, _++_}
+use borrow.Author.Tests.{le-leb, lt-leb, leb-true}
 use native.Mathlib.Omega.{arith}
-use lib.ListN.{length}
+use lib.ListN.{length, drop}
 use lib.Dec.{leb}
-use Rattle.words.specs.Scan.{every, allWithin}
-use Rattle.frames.specs.Number.{mostId, isId}
+use Rattle.words.specs.Scan.{every}
 use Rattle.frames.specs.Layout.{shortestToken}
-use Rattle.frames.specs.Header.{headerFollows}
 use Rattle.frames.specs.Token.{requestsFollow, tokenFollows, tokenBytes}
 use Rattle.frames.specs.Write.{writingOf, tokenWritten}
 use Rattle.frames.proofs.Facts.{part}
 use Rattle.frames.proofs.Sizes.{token-length}
-use Rattle.record.specs.Size.{leastMembers, mostMembers}
-use Rattle.record.specs.Members.{representative, membersCounted, idsFollow, ownAmong, ringInRange, foundable}
+use Rattle.record.specs.Size.{mostMembers}
+use Rattle.record.specs.Members.{membersCounted, idsFollow, ownAmong, ringInRange, foundable}
+use Rattle.record.specs.Layout.{recordSize}
+use Rattle.record.specs.Bytes.{recordBytes}
 use Rattle.record.specs.Fresh.{fresh}
-use Rattle.record.specs.declared.Record.{Record}
-use Rattle.record.proofs.MemberLaws.{foundable-facts}
-use Rattle.station.specs.Answer.{isTaken}
-use Rattle.station.specs.Reply.{Reply, asks, followedBy}
+use Rattle.record.specs.Lent.{noRecord}
+use Rattle.visit.specs.Output.{followedBy}
+use Rattle.visit.proofs.RingFacts.{representative-id, header-follows}
+use Rattle.station.specs.Reply.{refused, answered, Does}
 use Rattle.station.specs.Found.{firstToken, founded}
-use Rattle.station.specs.Door.{foundAnswer, foundBytes}
+use Rattle.station.specs.Over.{foundIn}
 use Rattle.station.specs.declared.refusal.Refusal.the-variants.{NoRoom, MemberCount, BadIds, NotAmong, BadRing}
-use Rattle.station.specs.declared.answer.Answer.{Answer}
-use Rattle.station.specs.declared.answer.Answer.the-variants.{Refused, Founded}
+use Rattle.station.specs.declared.answer.Answer.the-variants.{Founded}
 
--- ---- five questions, whatever they are
+-- ---- in lent bytes
 
-abbrev answers : Bool → Bool → Bool → Bool → Bool → Answer
-answers a b c d e = cond a (cond b (cond c (cond d (cond e Founded (Refused BadRing)) (Refused NotAmong)) (Refused BadIds)) (Refused MemberCount)) (Refused NoRoom)
+module _ (s ids out : List ℕ) (own ring : ℕ) where
+  pub in-roomless : length s < recordSize → foundIn s ids own ring (length out) ≡ refused noRecord NoRoom
+  unfolding foundIn founded
+  in-roomless h = rw (lt-leb recordSize (length s) h)
 
-abbrev asked : Record → Bool → Bool → Bool → Bool → Bool → Reply → Reply
-asked r a b c d e rest = asks r a NoRoom (asks r b MemberCount (asks r c BadIds (asks r d NotAmong (asks r e BadRing rest))))
+  module _ (long : recordSize ≤ length s) where
+    pub in-tokenless : length out < shortestToken → foundIn s ids own ring (length out) ≡ refused noRecord NoRoom
+    unfolding foundIn founded
+    in-tokenless h = rw (le-leb recordSize (length s) long, lt-leb shortestToken (length out) h)
 
-shut : (r : Record) (rest : Reply) (a b c d e : Bool) → isTaken (answers a b c d e) ≡ false → asked r a b c d e rest ≡ record { answer = answers a b c d e; rec = r; frames = []; deliveries = [] }
-shut r rest true true true true true n = absurd (false≢true (sym n))
-shut r rest true true true true false n = refl
-shut r rest true true true false e n = refl
-shut r rest true true false d e n = refl
-shut r rest true false c d e n = refl
-shut r rest false b c d e n = refl
+    module _ (room : shortestToken ≤ length out) where
+      pub in-uncounted : membersCounted ids ≡ false → foundIn s ids own ring (length out) ≡ refused noRecord MemberCount
+      unfolding foundIn founded
+      in-uncounted f = rw (le-leb recordSize (length s) long, le-leb shortestToken (length out) room, f)
 
-all-yes : (a b c d e : Bool) → isTaken (answers a b c d e) ≡ true → (a ≡ true) × (b ≡ true) × (c ≡ true) × (d ≡ true) × (e ≡ true)
-all-yes true true true true true t = (refl, refl, refl, refl, refl)
-all-yes true true true true false t = absurd (false≢true t)
-all-yes true true true false e t = absurd (false≢true t)
-all-yes true true false d e t = absurd (false≢true t)
-all-yes true false c d e t = absurd (false≢true t)
-all-yes false b c d e t = absurd (false≢true t)
+      module _ (counted : membersCounted ids ≡ true) where
+        pub in-bad-ids : idsFollow ids ≡ false → foundIn s ids own ring (length out) ≡ refused noRecord BadIds
+        unfolding foundIn founded
+        in-bad-ids f = rw (le-leb recordSize (length s) long, le-leb shortestToken (length out) room, counted, f)
 
-module _ (r : Record) (room : Bool) (ids : List ℕ) (own ring : ℕ) where
-  abbrev taken : Reply
-  taken = record { answer = Founded; rec = fresh ids own ring; frames = tokenBytes (firstToken ids ring); deliveries = [] }
+        module _ (follow : idsFollow ids ≡ true) where
+          pub in-not-among : ownAmong ids own ≡ false → foundIn s ids own ring (length out) ≡ refused noRecord NotAmong
+          unfolding foundIn founded
+          in-not-among f = rw (le-leb recordSize (length s) long, le-leb shortestToken (length out) room, counted, follow, f)
 
-  pub founded-refused : isTaken (foundAnswer room ids own ring) ≡ false
-      → founded r room ids own ring ≡ record { answer = foundAnswer room ids own ring; rec = r; frames = foundBytes room ids own ring; deliveries = [] }
-  unfolding founded
-  founded-refused n = rw n (shut r taken room (membersCounted ids) (idsFollow ids) (ownAmong ids own) (ringInRange ring) n)
+          module _ (among : ownAmong ids own ≡ true) where
+            pub in-bad-ring : ringInRange ring ≡ false → foundIn s ids own ring (length out) ≡ refused noRecord BadRing
+            unfolding foundIn founded
+            in-bad-ring f = rw (le-leb recordSize (length s) long, le-leb shortestToken (length out) room, counted, follow, among, f)
 
-  module _ (t : isTaken (foundAnswer room ids own ring) ≡ true) where
-    pub founded-all : (membersCounted ids ≡ true) × (founded r room ids own ring ≡ record { answer = foundAnswer room ids own ring; rec = fresh ids own ring; frames = foundBytes room ids own ring; deliveries = [] })
-    unfolding founded
-    founded-all =
-        let all = all-yes room (membersCounted ids) (idsFollow ids) (ownAmong ids own) (ringInRange ring) t in
-        (all .1, rw (all .0, all .1, all .2, all .3, all .4) refl)
+            pub in-founded : (s′ out′ : List ℕ) → ringInRange ring ≡ true
+                → s′ ≡ recordBytes (fresh ids own ring) ++ drop recordSize s
+                → out′ ≡ followedBy (tokenBytes (firstToken ids ring)) out
+                → Does answered (foundIn s ids own ring (length out)) Founded s s′ out out′ [] []
+            unfolding foundIn founded
+            in-founded s′ out′ ranged leaves writes =
+                rw (le-leb recordSize (length s) long, le-leb shortestToken (length out) room, counted, follow, among, ranged)
+                (record { answers = refl; station = leaves; frames = writes; deliveries = refl })
 
 pub foundable-when : (ids : List ℕ) (own ring : ℕ) → membersCounted ids ≡ true → idsFollow ids ≡ true → ownAmong ids own ≡ true → ringInRange ring ≡ true → foundable ids own ring ≡ true
 unfolding foundable
@@ -74,22 +74,10 @@ foundable-when ids own ring counted follow among ranged = rw (counted, follow, a
 
 -- ---- the header of its frames, and the first token
 
-representative-in : (ids : List ℕ) → leastMembers ≤ length ids → allWithin 1 mostId ids ≡ true → isId (representative ids) ≡ true
-unfolding every
-representative-in [] some e = absurd (omega arith)
-representative-in (x ∷ ids) some e = part e (λ (f : isId x ≡ false). rw f)
-
 module _ (ids : List ℕ) (own ring : ℕ) (e : foundable ids own ring ≡ true) where
-  representative-id : isId (representative ids) ≡ true
-  representative-id = let f = foundable-facts ids own ring e in representative-in ids (f .some) (f .known)
-
-  pub header-follows : headerFollows (record { ring = record { 0 = ring }; representative = representative ids }) ≡ true
-  unfolding foundable headerFollows
-  header-follows = rw (part e (λ (f : ringInRange ring ≡ false). simp (f, and-false)), representative-id)
-
   pub first-follows : tokenFollows (firstToken ids ring) ≡ true
   unfolding tokenFollows firstToken requestsFollow every
-  first-follows = rw (header-follows, representative-id)
+  first-follows = rw (header-follows ids own ring e, representative-id ids own ring e)
 
 pub first-length : (ids : List ℕ) (ring : ℕ) → length (tokenBytes (firstToken ids ring)) ≡ shortestToken
 unfolding firstToken

@@ -1,64 +1,59 @@
--- Posting: not whole, refused by 7 to 9, or taken.
+-- Posting, question by question.
 use Prim.Native.Nat.{ℕ, _<_, _≤_}
-use mathlib.Core.Path.{_≡_, refl, sym}
-use mathlib.Core.Bool.{Bool, true, false, false≢true, cond}
+use mathlib.Core.Path.{_≡_, refl, ap, _∙_}
+use mathlib.Core.Bool.{true, false}
 use mathlib.Core.List.{List, []}
-use borrow.Author.Tests.{leb-true, ltb-true}
+use borrow.Author.Tests.{le-leb, lt-leb, le-ltb, lt-ltb}
 use lib.ListN.{length}
-use lib.Dec.{leb, ltb}
 use Rattle.frames.specs.Layout.{mostService, mostContent}
 use Rattle.record.specs.Size.{mostPosts}
+use Rattle.record.specs.Posts.{queued}
+use Rattle.record.specs.Bytes.{recordBytes, recordOf}
+use Rattle.record.specs.Head.{withPosts}
+use Rattle.record.specs.Lent.{lent}
 use Rattle.record.specs.Whole.{whole}
 use Rattle.record.specs.declared.Record.{Record}
-use Rattle.station.specs.Answer.{isTaken}
-use Rattle.station.specs.Reply.{Reply, refused, asks, doneOf}
+use Rattle.station.specs.Reply.{refused, answered, Does}
 use Rattle.station.specs.Post.{withPost, posted}
-use Rattle.station.specs.Door.{postAnswer}
+use Rattle.station.specs.Over.{postOver}
 use Rattle.station.specs.declared.refusal.Refusal.the-variants.{NotWhole, LongContent, OtherService, PostsFull}
-use Rattle.station.specs.declared.answer.Answer.{Answer}
-use Rattle.station.specs.declared.answer.Answer.the-variants.{Refused, Posted}
-
--- ---- three questions, whatever they are
-
-abbrev answers : Bool → Bool → Bool → Answer
-answers a b c = cond a (cond b (cond c Posted (Refused PostsFull)) (Refused OtherService)) (Refused LongContent)
-
-abbrev asked : Record → Bool → Bool → Bool → Reply → Reply
-asked r a b c rest = asks r a LongContent (asks r b OtherService (asks r c PostsFull rest))
-
-shut : (r : Record) (rest : Reply) (a b c : Bool) → isTaken (answers a b c) ≡ false → doneOf (asked r a b c rest) ≡ record { answer = answers a b c; rec = r }
-shut r rest true true true e = absurd (false≢true (sym e))
-shut r rest true true false e = refl
-shut r rest true false c e = refl
-shut r rest false b c e = refl
-
-all-yes : (r : Record) (rest : Reply) (a b c : Bool) → isTaken (answers a b c) ≡ true → (a ≡ true) × (b ≡ true) × (c ≡ true)
-all-yes r rest true true true e = (refl, refl, refl)
-all-yes r rest true true false e = absurd (false≢true e)
-all-yes r rest true false c e = absurd (false≢true e)
-all-yes r rest false b c e = absurd (false≢true e)
+use Rattle.station.specs.declared.answer.Answer.the-variants.{Posted}
+use Rattle.station.proofs.DoesLaws.{takes}
+use Rattle.station.proofs.LentLaws.{whole-long, whole-lent}
 
 module _ (r : Record) (service : ℕ) (content : List ℕ) where
-  abbrev taken : Reply
-  taken = record { answer = Posted; rec = withPost r service content; frames = []; deliveries = [] }
-
   pub posted-not-whole : whole r ≡ false → posted r service content ≡ refused r NotWhole
   unfolding posted
   posted-not-whole e = rw e
 
-  module _ (w : whole r ≡ true) where
-    pub posted-refused : isTaken (postAnswer (r .posts .count) service content) ≡ false → doneOf (posted r service content) ≡ record { answer = postAnswer (r .posts .count) service content; rec = r }
-    unfolding posted
-    posted-refused e = rw w (shut r taken (leb (length content) mostContent) (leb service mostService) (ltb (r .posts .count) mostPosts) e)
+module _ (s : List ℕ) (service : ℕ) (content : List ℕ) where
+  pub over-not-whole : whole (lent s) ≡ false → postOver s service content ≡ refused (lent s) NotWhole
+  unfolding postOver
+  over-not-whole e = posted-not-whole (lent s) service content e
 
-    module _ (e : isTaken (postAnswer (r .posts .count) service content) ≡ true) where
-      pub asked-all : (length content ≤ mostContent) × (r .posts .count < mostPosts)
-      asked-all =
-          let all = all-yes r taken (leb (length content) mostContent) (leb service mostService) (ltb (r .posts .count) mostPosts) e in
-          (leb-true (length content) mostContent (all .0), ltb-true (r .posts .count) mostPosts (all .2))
+  module _ (w : whole (lent s) ≡ true) where
+    pub over-long : mostContent < length content → postOver s service content ≡ refused (lent s) LongContent
+    unfolding postOver posted
+    over-long h = rw (w, lt-leb (length content) mostContent h)
 
-      pub posted-taken : doneOf (posted r service content) ≡ record { answer = postAnswer (r .posts .count) service content; rec = withPost r service content }
-      unfolding posted
-      posted-taken =
-          let all = all-yes r taken (leb (length content) mostContent) (leb service mostService) (ltb (r .posts .count) mostPosts) e in
-          rw (w, all .0, all .1, all .2) refl
+    module _ (short : length content ≤ mostContent) where
+      pub over-service : mostService < service → postOver s service content ≡ refused (lent s) OtherService
+      unfolding postOver posted
+      over-service h = rw (w, le-leb (length content) mostContent short, lt-leb service mostService h)
+
+      module _ (serves : service ≤ mostService) (count : ℕ) (counts : count ≡ recordOf s .posts .count) where
+        waits : lent s .posts .count ≡ count
+        waits = rw (whole-lent s w, counts) refl
+
+        pub over-full : mostPosts ≤ count → postOver s service content ≡ refused (lent s) PostsFull
+        unfolding postOver posted
+        over-full h = rw (w, le-leb (length content) mostContent short, le-leb service mostService serves, waits, le-ltb count mostPosts h)
+
+        pub over-posted : (s′ : List ℕ) → count < mostPosts
+            → s′ ≡ recordBytes (withPosts (recordOf s) (queued (recordOf s .posts) service content))
+            → Does answered (postOver s service content) Posted s s′ [] [] [] []
+        unfolding postOver posted
+        over-posted s′ h e =
+            let there : s′ ≡ recordBytes (withPost (lent s) service content) = rw (whole-lent s w) e in
+            rw (w, le-leb (length content) mostContent short, le-leb service mostService serves, waits, lt-ltb count mostPosts h)
+            (takes (record { answer = Posted; rec = withPost (lent s) service content; frames = []; deliveries = [] }) Posted s s′ [] [] [] [] refl (whole-long s w) refl there refl refl)

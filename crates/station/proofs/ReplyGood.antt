@@ -3,7 +3,7 @@ use Prim.Native.Nat.{ℕ, _≤_, _<_}
 use mathlib.Core.Path.{_≡_, refl, sym, ap}
 use mathlib.Core.Bool.{Bool, true}
 use mathlib.Core.List.{List, [], _∷_, _++_}
-use borrow.Author.Tests.{leb-true, ltb-true}
+use borrow.Author.Tests.{leb-true, ltb-true, eqb-true}
 use native.Mathlib.Omega.{arith}
 use lib.ListN.{length}
 use lib.Dec.{leb, ltb}
@@ -22,8 +22,10 @@ use Rattle.record.proofs.FreshLaws.{fresh-whole}
 use Rattle.record.proofs.PostLaws.{post-sizes, waiting-queued}
 use Rattle.record.proofs.PostsWhole.{queued-in-range, queued-unused-zero}
 use Rattle.record.proofs.WholeFacts.{whole-good, good-whole}
-use Rattle.station.specs.Answer.{outcomeOf}
-use Rattle.station.specs.Reply.{Reply, refused, asks, mostFrames}
+use Rattle.station.specs.Refusal.{refusalNumber}
+use Rattle.station.specs.Answer.{outcomeOf, isTaken}
+use Rattle.station.specs.Reply.{Reply, refused, asks}
+use Rattle.visit.specs.Output.{mostFrames}
 use Rattle.station.specs.Found.{firstToken, founded}
 use Rattle.station.specs.Post.{withPost, posted}
 use Rattle.station.specs.Resend.{resent}
@@ -32,6 +34,7 @@ use Rattle.station.specs.declared.refusal.Refusal.{Refusal}
 use Rattle.station.specs.declared.refusal.Refusal.the-variants.{NoRoom, NotWhole, MemberCount, BadIds, NotAmong, BadRing, LongContent, OtherService, PostsFull, NothingToResend}
 use Rattle.station.specs.declared.answer.Answer.{Answer}
 use Rattle.station.specs.declared.answer.Answer.the-variants.{Refused, Founded, Posted, Resent}
+use Rattle.station.proofs.RefusalLaws.{some-number}
 use Rattle.station.proofs.ReplyLaws.{asked}
 use Rattle.station.proofs.FoundLaws.{foundable-when, first-length}
 
@@ -103,6 +106,17 @@ founded-whole r room ids own ring =
     own
     ring
     (λ e answer. fresh-whole ids own ring e)
+
+pub founded-taken-whole : (r : Record) (room : Bool) (ids : List ℕ) (own ring : ℕ) → isTaken (founded r room ids own ring .answer) ≡ true → whole (founded r room ids own ring .rec) ≡ true
+founded-taken-whole r room ids own ring =
+    founded-either (λ reply. isTaken (reply .answer) ≡ true → whole (reply .rec) ≡ true)
+    r
+    (λ why t. absurd (some-number why (eqb-true (refusalNumber why) 0 t)))
+    room
+    ids
+    own
+    ring
+    (λ e t. fresh-whole ids own ring e)
 
 -- ---- posting
 

@@ -9,7 +9,7 @@ use Rattle.record.specs.Whole.{whole}
 use Rattle.record.specs.Fresh.{fresh}
 use Rattle.record.specs.declared.Record.{Record}
 use Rattle.station.specs.Reply.{Reply}
-use Rattle.station.specs.Deliver.{entryOf}
+use Rattle.visit.specs.Deliver.{entryOf}
 use Rattle.station.specs.Post.{posted}
 use Rattle.station.specs.Resend.{resent}
 use Rattle.station.specs.Arrive.{arrived}

@@ -1,7 +1,7 @@
 -- Arrival of a frame. [document 01, Questions at the door: 1, 2, 10 to 18]
-use Prim.Native.Nat.{ℕ, suc}
-use mathlib.Core.Bool.{Bool, not, _&&_, _||_}
-use mathlib.Core.List.{List}
+use Prim.Native.Nat.{ℕ}
+use mathlib.Core.Bool.{_&&_}
+use mathlib.Core.List.{List, []}
 use lib.Dec.{leb, ltb, eqb}
 use Rattle.frames.specs.Number.{mostNumber}
 use Rattle.frames.specs.Message.{contentOf}
@@ -12,17 +12,20 @@ use Rattle.frames.specs.declared.message.Message.{Message}
 use Rattle.frames.specs.declared.token.Token.{Token}
 use Rattle.frames.specs.declared.reader.Reading.{Reading}
 use Rattle.frames.specs.declared.reader.Answer.the-variants.{Refused as Unreadable, IsMessage, IsToken}
-use Rattle.record.specs.Size.{mostHeld}
-use Rattle.record.specs.Count.{everyFrom}
-use Rattle.record.specs.Held.{holds}
 use Rattle.record.specs.Members.{isMember}
 use Rattle.record.specs.Ring.{current, ids, thisRing, tokenMembers}
 use Rattle.record.specs.Whole.{whole}
-use Rattle.record.specs.declared.log.Log.{Log}
 use Rattle.record.specs.declared.Record.{Record}
-use Rattle.station.specs.Reply.{Reply, refused, asks, mostFrames, mostDeliveries}
-use Rattle.station.specs.Message.{messageHeard}
-use Rattle.station.specs.Visit.{accepted}
+use Rattle.station.specs.Reply.{Reply, refused, asks}
+use Rattle.visit.specs.Output.{mostFrames, mostDeliveries}
+use Rattle.visit.specs.Deliver.{joined}
+use Rattle.visit.specs.Message.{heardOf, recHeard, handedHeard}
+use Rattle.visit.specs.Visit.{Visit, rec′, written, handed, visitedOf}
+use Rattle.visit.specs.Acceptable.{coversHeld, visit}
+use Rattle.visit.specs.declared.hearing.Hearing.{Hearing}
+use Rattle.visit.specs.declared.hearing.Hearing.the-variants.{WasHad, IsAhead, IsKept}
+use Rattle.station.specs.declared.answer.Answer.{Answer}
+use Rattle.station.specs.declared.answer.Answer.the-variants.{Kept, Had, Ahead, Accepted}
 use Rattle.station.specs.declared.refusal.Refusal.{Refusal}
 use Rattle.station.specs.declared.refusal.Refusal.the-variants.{NoRoom, NotWhole, WrongLength, OtherKind, Malformed, OtherRing, NotMember, OtherAddressee, OldToken, LastToken, BelowHeld}
 
@@ -33,9 +36,30 @@ readerRefusal ReadLength = WrongLength
 readerRefusal ReadKind = OtherKind
 readerRefusal ReadLayout = Malformed
 
--- 18. Is its highest at least the level and every number held here?
-unfoldable pub coversHeld : Log → ℕ → Bool
-coversHeld l highest = leb (l .level .0) highest && everyFrom (λ n. leb n highest || not (holds l n)) (suc (l .safe .0)) mostHeld
+-- a message's arrival: had, ahead or kept, and how many bytes are delivered
+abbrev pub heardAnswer : Hearing → ℕ → Answer
+heardAnswer WasHad n = Had n
+heardAnswer IsAhead n = Ahead n
+heardAnswer IsKept n = Kept n
+
+unfoldable pub messageHeard : Record → Message → List ℕ → Reply
+messageHeard r m content =
+    record {
+      answer = heardAnswer (heardOf r m content .how) (heardOf r m content .size);
+      rec = recHeard r m content;
+      frames = [];
+      deliveries = handedHeard r m content;
+    }
+
+-- a token's: how many bytes are written and delivered, and the notice 'deaf'
+unfoldable pub accepted : Visit → Reply
+accepted v =
+    record {
+      answer = Accepted (visitedOf v .frames) (visitedOf v .deliveries) (visitedOf v .deaf);
+      rec = rec′ v;
+      frames = joined (written v);
+      deliveries = handed v;
+    }
 
 -- 13 and 14, of a message
 unfoldable pub messageArrived : Record → Message → List ℕ → Reply
@@ -53,7 +77,7 @@ tokenArrived r t =
     (asks r (ltb (r .turn .number .0) (t .number .0)) OldToken
     (asks r (ltb (t .number .0) mostNumber) LastToken
     (asks r (coversHeld (current r) (t .highest .0)) BelowHeld
-    (accepted (record { rec = r; token = t })))))))
+    (accepted (visit r t)))))))
 
 -- by what the reader says
 abbrev pub frameArrived : Record → List ℕ → Reading → Reply

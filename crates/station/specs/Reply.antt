@@ -1,11 +1,14 @@
 -- What a call leaves: its answer, the record, the bytes for the cable and the bytes delivered. [document 01, Questions at the door]
-use Prim.Native.Nat.{ℕ, _+_, _*_}
+use Prim.Native.Nat.{ℕ}
+use mathlib.Core.Path.{_≡_}
 use mathlib.Core.Bool.{Bool, cond}
 use mathlib.Core.List.{List, [], _++_}
-use lib.ListN.{length, drop}
-use Rattle.frames.specs.Layout.{longestMessage, longestToken}
-use Rattle.record.specs.Size.{mostHeld, mostBroadcasts}
+use lib.ListN.{drop}
+use Rattle.record.specs.Layout.{recordSize}
+use Rattle.record.specs.Bytes.{recordBytes}
 use Rattle.record.specs.declared.Record.{Record}
+use Rattle.visit.specs.Output.{followedBy}
+use Rattle.station.specs.Answer.{isTaken}
 use Rattle.station.specs.declared.refusal.Refusal.{Refusal}
 use Rattle.station.specs.declared.answer.Answer.{Answer}
 use Rattle.station.specs.declared.answer.Answer.the-variants.{Refused}
@@ -25,18 +28,25 @@ refused r why = record { answer = Refused why; rec = r; frames = []; deliveries 
 abbrev pub asks : Record → Bool → Refusal → Reply → Reply
 asks r question why rest = cond question rest (refused r why)
 
--- an output buffer afterwards: the bytes written, followed by what stood after them
-abbrev pub followedBy : List ℕ → List ℕ → List ℕ
-followedBy bytes out = bytes ++ drop (length bytes) out
+-- ---- of a call on a record by value: the answer and the record
 
--- question 1's bound on the buffer for frames: what a visit broadcasts at most, and the token
-abbrev pub mostFrames : ℕ
-mostFrames = mostBroadcasts * longestMessage + longestToken
-
--- and on the buffer for deliveries: all that is held
-abbrev pub mostDeliveries : ℕ
-mostDeliveries = mostHeld * longestMessage
-
--- the answer and the record of a reply
 abbrev pub doneOf : Reply → Done
 doneOf reply = record { answer = reply .answer; rec = reply .rec }
+
+-- ---- of a call on a record in lent bytes
+
+-- the station's bytes afterwards: those of the record, followed by what stood after them; a refusal leaves every byte as it was
+abbrev pub stationAfter : Reply → List ℕ → List ℕ
+stationAfter reply s = cond (isTaken (reply .answer)) (recordBytes (reply .rec) ++ drop recordSize s) s
+
+-- the answer as it is
+abbrev pub answered : Answer → Answer
+answered a = a
+
+-- the call does what the reply says: what it answers (the answer as it is, or in document 01's numbers), the station's bytes before and
+-- after, and the same of the buffers for frames and for deliveries. A call without such a buffer says [] []
+pub record Does {A : Type 0} (said : Answer → A) (reply : Reply) (answer : A) (s s′ f f′ d d′ : List ℕ) : Type 0 where
+  pub answers : answer ≡ said (reply .answer)
+  pub station : s′ ≡ stationAfter reply s
+  pub frames : f′ ≡ followedBy (reply .frames) f
+  pub deliveries : d′ ≡ followedBy (reply .deliveries) d

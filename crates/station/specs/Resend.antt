@@ -6,7 +6,8 @@ use lib.Dec.{leb}
 use Rattle.record.specs.Turn.{mayResend, remembered}
 use Rattle.record.specs.Whole.{whole}
 use Rattle.record.specs.declared.Record.{Record}
-use Rattle.station.specs.Reply.{Reply, asks, mostFrames}
+use Rattle.station.specs.Reply.{Reply, asks}
+use Rattle.visit.specs.Output.{mostFrames}
 use Rattle.station.specs.declared.refusal.Refusal.the-variants.{NoRoom, NotWhole, NothingToResend}
 use Rattle.station.specs.declared.answer.Answer.the-variants.{Resent}
 

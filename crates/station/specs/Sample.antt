@@ -16,10 +16,11 @@ use Rattle.record.specs.declared.log.Held.{Held}
 use Rattle.record.specs.declared.turn.Turn.{Turn}
 use Rattle.record.specs.declared.Record.{Record}
 use Rattle.station.specs.Answer.{outcomeOf}
-use Rattle.station.specs.Reply.{Reply, mostFrames, mostDeliveries}
+use Rattle.station.specs.Reply.{Reply}
+use Rattle.visit.specs.Output.{mostFrames, mostDeliveries}
 use Rattle.station.specs.Post.{withPost}
 use Rattle.station.specs.Arrive.{arrived}
-use Rattle.station.specs.Within.{framesIn}
+use Rattle.visit.specs.Within.{framesIn}
 
 -- ---- a row: what is given, and what is wanted
 

@@ -11,7 +11,8 @@ use Rattle.frames.specs.Trials.{firstBytes}
 use Rattle.record.specs.Fresh.{freshLog, freshPosts, fresh}
 use Rattle.record.specs.declared.Record.{Record}
 use Rattle.station.specs.Answer.{outcomeOf}
-use Rattle.station.specs.Reply.{Reply, mostFrames, mostDeliveries}
+use Rattle.station.specs.Reply.{Reply}
+use Rattle.visit.specs.Output.{mostFrames, mostDeliveries}
 use Rattle.station.specs.Found.{founded}
 use Rattle.station.specs.Post.{posted}
 use Rattle.station.specs.Resend.{resent}

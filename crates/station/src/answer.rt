@@ -1,7 +1,6 @@
 // What a call answers, and the same in document 01's numbers.
 ghost use mathlib.Core.Path.{_≡_};
 ghost use Rattle.station.specs.Answer.{happened, outcomeOf, isTaken};
-ghost use Rattle.station.specs.Door.{notWholeAnswer};
 use crate::refusal;
 use crate::refusal::Refusal;
 
@@ -58,16 +57,6 @@ pub fn is_taken(a: Answer) -> bool
     ensures { λ r. ⌜ r ≡ isTaken a ⌝ }
 {
     outcome_of(a).refusal == 0
-}
-
-// 1 and 2, of a record that isn't whole. Ruled out: 2 where there is no room; an outcome.
-pub fn not_whole(room: bool) -> Answer
-    ensures { λ r. ⌜ r ≡ notWholeAnswer room ⌝ }
-{
-    if !room {
-        return Answer::Refused(Refusal::NoRoom);
-    }
-    Answer::Refused(Refusal::NotWhole)
 }
 
 // Ruled out: a count with a refusal; a refusal that reads like an outcome.

@@ -1,30 +1,29 @@
-// Arrival: the questions at the door, and what the frame is.
+// Arrival: the questions at the door, and what the frame is. In lent bytes, and by value.
 ghost use mathlib.Core.Path.{_≡_};
 ghost use mathlib.Core.Bool.{true};
-ghost use mathlib.Core.List.{List};
-ghost use Prim.Native.Nat.{ℕ, _≤_};
+ghost use mathlib.Core.List.{[]};
+ghost use Prim.Native.Nat.{_≤_};
 ghost use lib.ListN.{length};
 ghost use Rattle.frames.specs.Message.{messageFollows};
 ghost use Rattle.frames.specs.Token.{tokenFollows};
 ghost use Rattle.frames.specs.Read.{readOf};
-ghost use Rattle.record.specs.Bytes.{recordBytes};
-ghost use Rattle.record.specs.Head.{logOn, recordIn};
-ghost use Rattle.station.specs.Reply.{doneOf, followedBy, mostFrames, mostDeliveries};
-ghost use Rattle.station.specs.Steps.{HeadIn};
-ghost use Rattle.station.specs.Arrive.{readerRefusal, coversHeld, messageArrived, tokenArrived, frameArrived, arrived};
-use crate::answer;
+ghost use Rattle.record.specs.Head.{recordIn};
+ghost use Rattle.visit.specs.Output.{followedBy, mostFrames, mostDeliveries};
+ghost use Rattle.station.specs.Reply.{doneOf, answered, Does};
+ghost use Rattle.station.specs.Arrive.{readerRefusal, heardAnswer, messageArrived, tokenArrived, frameArrived, arrived};
+ghost use Rattle.station.specs.Over.{arriveOver};
+ghost use Rattle.station.specs.inner.Value.{HeadIn};
 use crate::answer::Answer;
+use crate::done;
 use crate::done::Done;
-use crate::hearing;
 use crate::refusal::Refusal;
 use crate::room;
-use crate::visiting;
 use frames::Message;
-use frames::MessageNumber;
 use frames::Token;
 use record::Head;
-use record::LogHead;
 use record::Record;
+use visit::Heard;
+use visit::Hearing;
 
 // 10 to 12 are the reader's.
 fn reader_refusal(why: frames::Refusal) -> Refusal
@@ -38,24 +37,16 @@ fn reader_refusal(why: frames::Refusal) -> Refusal
     }
 }
 
-// 18. Is the highest at least the level and every number held? Place by place, with no way out of the loop, so
-// that the compiler can test many at once. Ruled out: a held number above the highest; a free place taken for one.
-fn covers_held(l: LogHead, highest: MessageNumber) -> bool
-    ensures { λ r. ⌜ ((contents : List ℕ) → r ≡ coversHeld (logOn l contents) (highest .0)) ⌝ }
+// A message's arrival: had, ahead or kept.
+fn heard_answer(h: Heard) -> Answer
+    ensures { λ r. ⌜ r ≡ heardAnswer (h .how) (h .size) ⌝ }
 {
-    if highest.0 < l.level.0 {
-        return false;
+    let how = h.how;
+    match how {
+        Hearing::WasHad => Answer::Had(h.size),
+        Hearing::IsAhead => Answer::Ahead(h.size),
+        Hearing::IsKept => Answer::Kept(h.size),
     }
-    let senders = l.senders;
-    let covered = words::saturating_sub(highest.0, l.safe.0);
-    let mut good = true;
-    let mut i = 0;
-    while i < record::MOST_HELD {
-        let before = record::numbers_before(l.safe, i);
-        good = good & ((before < covered) | (senders[i] == 0));
-        i += 1;
-    }
-    good
 }
 
 // 13 and 14, of a message, at the record in these bytes with this head.
@@ -69,11 +60,8 @@ fn message_arrived(
     requires { ⌜
         HeadIn h (now s) × (messageFollows m (now content) ≡ true) × (mostDeliveries ≤ length (now deliveries)) ⌝ }
     ensures { λ r. ⌜
-        (r ≡ messageArrived (recordIn h (now (s .entry))) m (now (content .entry)) .answer)
-        × (now (s .exit) ≡ recordBytes (messageArrived (recordIn h (now (s .entry))) m (now (content .entry)) .rec))
-        × (now (deliveries .exit) ≡ followedBy
-        (messageArrived (recordIn h (now (s .entry))) m (now (content .entry)) .deliveries)
-        (now (deliveries .entry))) ⌝ }
+        Does answered (messageArrived (recordIn h (now (s .entry))) m (now (content .entry))) r
+        (now (s .entry)) (now (s .exit)) [] [] (now (deliveries .entry)) (now (deliveries .exit)) ⌝ }
 {
     let members = h.log.members;
     let n = h.log.count as usize;
@@ -84,7 +72,8 @@ fn message_arrived(
     if !record::is_member(ids, m.sender) {
         return Answer::Refused(Refusal::NotMember);
     }
-    hearing::hear(h, s, m, content, deliveries)
+    let heard = visit::hear(h, s, m, content, deliveries);
+    heard_answer(heard)
 }
 
 // 13 to 18, of a token.
@@ -101,10 +90,9 @@ fn token_arrived(
         × (mostFrames ≤ length (now frames))
         × (mostDeliveries ≤ length (now deliveries)) ⌝ }
     ensures { λ r. ⌜
-        (r ≡ tokenArrived (recordIn h (now (s .entry))) t .answer)
-        × (now (s .exit) ≡ recordBytes (tokenArrived (recordIn h (now (s .entry))) t .rec))
-        × (now (frames .exit) ≡ followedBy (tokenArrived (recordIn h (now (s .entry))) t .frames) (now (frames .entry)))
-        × (now (deliveries .exit) ≡ followedBy (tokenArrived (recordIn h (now (s .entry))) t .deliveries) (now (deliveries .entry))) ⌝ }
+        Does answered (tokenArrived (recordIn h (now (s .entry))) t) r
+        (now (s .entry)) (now (s .exit)) (now (frames .entry)) (now (frames .exit))
+        (now (deliveries .entry)) (now (deliveries .exit)) ⌝ }
 {
     let members = h.log.members;
     let n = h.log.count as usize;
@@ -124,10 +112,15 @@ fn token_arrived(
     if frames::MOST_NUMBER <= t.number.0 {
         return Answer::Refused(Refusal::LastToken);
     }
-    if !covers_held(h.log, t.highest) {
+    if !visit::covers_held(h.log, t.highest) {
         return Answer::Refused(Refusal::BelowHeld);
     }
-    visiting::accept(h, s, t, frames, deliveries)
+    let visited = visit::accept(h, s, t, frames, deliveries);
+    Answer::Accepted {
+        frames: visited.frames,
+        deliveries: visited.deliveries,
+        deaf: visited.deaf,
+    }
 }
 
 // By what the reader says.
@@ -141,15 +134,9 @@ fn frame_arrived(
     requires { ⌜
         HeadIn h (now s) × (mostFrames ≤ length (now frames)) × (mostDeliveries ≤ length (now deliveries)) ⌝ }
     ensures { λ r. ⌜
-        (r ≡ frameArrived (recordIn h (now (s .entry))) (now (frame .entry)) (readOf (now (frame .entry))) .answer)
-        × (now (s .exit) ≡ recordBytes
-        (frameArrived (recordIn h (now (s .entry))) (now (frame .entry)) (readOf (now (frame .entry))) .rec))
-        × (now (frames .exit) ≡ followedBy
-        (frameArrived (recordIn h (now (s .entry))) (now (frame .entry)) (readOf (now (frame .entry))) .frames)
-        (now (frames .entry)))
-        × (now (deliveries .exit) ≡ followedBy
-        (frameArrived (recordIn h (now (s .entry))) (now (frame .entry)) (readOf (now (frame .entry))) .deliveries)
-        (now (deliveries .entry))) ⌝ }
+        Does answered (frameArrived (recordIn h (now (s .entry))) (now (frame .entry)) (readOf (now (frame .entry)))) r
+        (now (s .entry)) (now (s .exit)) (now (frames .entry)) (now (frames .exit))
+        (now (deliveries .entry)) (now (deliveries .exit)) ⌝ }
 {
     let reading = frames::read(frame);
     let answer = reading.answer;
@@ -162,35 +149,26 @@ fn frame_arrived(
     }
 }
 
-// Arrival at a whole record in the bytes where it is lent, with its head: a refusal leaves them as they are.
-// Ruled out: a frame read where there is no room; a buffer of just enough bytes refused.
-pub fn arrive_in(
-    h: Head,
-    s: &mut [u8],
-    frame: &[u8],
-    frames: &mut [u8],
-    deliveries: &mut [u8],
-) -> Answer
-    requires { ⌜ HeadIn h (now s) ⌝ }
+// A frame of any bytes and length arrives at the record in these bytes: 1 and 2, then what the frame is asked.
+// Ruled out: every message 'ahead'; a record written with a refusal.
+pub fn arrive_in(s: &mut [u8], frame: &[u8], frames: &mut [u8], deliveries: &mut [u8]) -> Answer
     ensures { λ r. ⌜
-        (r ≡ arrived (recordIn h (now (s .entry))) (now (frame .entry)) (length (now (frames .entry))) (length (now (deliveries .entry))) .answer)
-        × (now (s .exit) ≡ recordBytes
-        (arrived (recordIn h (now (s .entry))) (now (frame .entry)) (length (now (frames .entry))) (length (now (deliveries .entry))) .rec))
-        × (now (frames .exit) ≡ followedBy
-        (arrived (recordIn h (now (s .entry))) (now (frame .entry)) (length (now (frames .entry))) (length (now (deliveries .entry))) .frames)
-        (now (frames .entry)))
-        × (now (deliveries .exit) ≡ followedBy
-        (arrived (recordIn h (now (s .entry))) (now (frame .entry)) (length (now (frames .entry))) (length (now (deliveries .entry))) .deliveries)
-        (now (deliveries .entry))) ⌝ }
+        Does answered
+        (arriveOver (now (s .entry)) (now (frame .entry)) (length (now (frames .entry))) (length (now (deliveries .entry)))) r
+        (now (s .entry)) (now (s .exit)) (now (frames .entry)) (now (frames .exit))
+        (now (deliveries .entry)) (now (deliveries .exit)) ⌝ }
 {
     if !room::arrival_fits(frames.len(), deliveries.len()) {
         return Answer::Refused(Refusal::NoRoom);
     }
-    frame_arrived(h, s, frame, frames, deliveries)
+    let head = record::head_in(s);
+    if !record::is_whole_at(head, s) {
+        return Answer::Refused(Refusal::NotWhole);
+    }
+    frame_arrived(head, s, frame, frames, deliveries)
 }
 
-// A frame of any bytes and length arrives. Ruled out: every message 'ahead'; tokens passed along
-// untouched.
+// Ruled out: every message 'ahead'; tokens passed along untouched.
 pub fn arrive_step(rec: Record, frame: &[u8], frames: &mut [u8], deliveries: &mut [u8]) -> Done
     ensures { λ r. ⌜
         (r ≡ doneOf (arrived rec (now (frame .entry)) (length (now (frames .entry))) (length (now (deliveries .entry)))))
@@ -201,19 +179,8 @@ pub fn arrive_step(rec: Record, frame: &[u8], frames: &mut [u8], deliveries: &mu
         (arrived rec (now (frame .entry)) (length (now (frames .entry))) (length (now (deliveries .entry))) .deliveries)
         (now (deliveries .entry))) ⌝ }
 {
-    if !record::is_whole(rec) {
-        let room = room::arrival_fits(frames.len(), deliveries.len());
-        return Done {
-            answer: answer::not_whole(room),
-            rec,
-        };
-    }
     let mut bytes = [0u8; record::RECORD_SIZE];
-    record::encode(rec, &mut bytes);
-    let head = record::get_head(&bytes);
-    let answer = arrive_in(head, &mut bytes, frame, frames, deliveries);
-    Done {
-        answer,
-        rec: record::decode(&bytes),
-    }
+    done::lend(rec, &mut bytes);
+    let answer = arrive_in(&mut bytes, frame, frames, deliveries);
+    done::settle(rec, answer, &bytes)
 }

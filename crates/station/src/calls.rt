@@ -2,8 +2,7 @@
 // back. A refusal's reply has the record as it was and no bytes, so it alters nothing.
 ghost use mathlib.Core.Path.{_≡_};
 ghost use lib.ListN.{length};
-ghost use Rattle.station.specs.Answer.{outcomeOf};
-ghost use Rattle.station.specs.Reply.{followedBy};
+ghost use Rattle.visit.specs.Output.{followedBy};
 ghost use Rattle.station.specs.Found.{foundedOn};
 ghost use Rattle.station.specs.Post.{posted};
 ghost use Rattle.station.specs.Resend.{resent};
@@ -26,9 +25,7 @@ pub fn found(rec: &mut Record, ids: &[u16], own: u16, ring: RingNumber, token: &
         × (r ≡ (foundedOn (now (rec .entry)) (length (now (token .entry))) (now (ids .entry)) own (ring .0)) .answer)
         × (now (token .exit) ≡ followedBy
         ((foundedOn (now (rec .entry)) (length (now (token .entry))) (now (ids .entry)) own (ring .0)) .frames)
-        (now (token .entry)))
-        × (outcomeOf r ≡ outcomeOf
-        ((foundedOn (now (rec .entry)) (length (now (token .entry))) (now (ids .entry)) own (ring .0)) .answer)) ⌝ }
+        (now (token .entry))) ⌝ }
 {
     let done = founding::found_step(*rec, ids, own, ring, token);
     *rec = done::rec_of(done);
@@ -39,8 +36,7 @@ pub fn found(rec: &mut Record, ids: &[u16], own: u16, ring: RingNumber, token: &
 pub fn post(rec: &mut Record, service: u16, content: &[u8]) -> Answer
     ensures { λ r. ⌜
         (now (rec .exit) ≡ (posted (now (rec .entry)) service (now (content .entry))) .rec)
-        × (r ≡ (posted (now (rec .entry)) service (now (content .entry))) .answer)
-        × (outcomeOf r ≡ outcomeOf ((posted (now (rec .entry)) service (now (content .entry))) .answer)) ⌝ }
+        × (r ≡ (posted (now (rec .entry)) service (now (content .entry))) .answer) ⌝ }
 {
     let done = posting::post_step(*rec, service, content);
     *rec = done::rec_of(done);
@@ -59,9 +55,7 @@ pub fn arrive(rec: &mut Record, frame: &[u8], frames: &mut [u8], deliveries: &mu
         (now (frames .entry)))
         × (now (deliveries .exit) ≡ followedBy
         ((arrived (now (rec .entry)) (now (frame .entry)) (length (now (frames .entry))) (length (now (deliveries .entry)))) .deliveries)
-        (now (deliveries .entry)))
-        × (outcomeOf r ≡ outcomeOf
-        ((arrived (now (rec .entry)) (now (frame .entry)) (length (now (frames .entry))) (length (now (deliveries .entry)))) .answer)) ⌝ }
+        (now (deliveries .entry))) ⌝ }
 {
     let done = arriving::arrive_step(*rec, frame, frames, deliveries);
     *rec = done::rec_of(done);
@@ -75,8 +69,7 @@ pub fn resend(rec: &mut Record, frames: &mut [u8]) -> Answer
         × (r ≡ (resent (now (rec .entry)) (length (now (frames .entry)))) .answer)
         × (now (frames .exit) ≡ followedBy
         ((resent (now (rec .entry)) (length (now (frames .entry)))) .frames)
-        (now (frames .entry)))
-        × (outcomeOf r ≡ outcomeOf ((resent (now (rec .entry)) (length (now (frames .entry)))) .answer)) ⌝ }
+        (now (frames .entry))) ⌝ }
 {
     let done = resending::resend_step(*rec, frames);
     *rec = done::rec_of(done);

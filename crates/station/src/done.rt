@@ -1,8 +1,10 @@
-// What a step by value leaves: its answer and the record.
+// A call on a record by value: the record's bytes, the call on them, and what it leaves: its answer and the record.
 ghost use mathlib.Core.Path.{_≡_};
-ghost use Rattle.station.specs.Reply.{refused, doneOf};
+ghost use lib.ListN.{length};
+ghost use Rattle.record.specs.Layout.{recordSize};
+ghost use Rattle.station.specs.inner.Value.{lentBy, settled};
+use crate::answer;
 use crate::answer::Answer;
-use crate::refusal::Refusal;
 use record::Record;
 
 pub struct Done {
@@ -27,12 +29,27 @@ pub fn answer_of(done: Done) -> Answer
     done.answer
 }
 
-// Ruled out: a record changed by a refusal; another question's refusal.
-pub fn refuse(rec: Record, why: Refusal) -> Done
-    ensures { λ r. ⌜ r ≡ doneOf (refused rec why) ⌝ }
+// The bytes of a whole record. Of one that isn't whole nothing is written: zeros are not whole either, so that a
+// call on them is refused as a call on the record is.
+pub fn lend(rec: Record, bytes: &mut [u8])
+    requires { ⌜ length (now bytes) ≡ recordSize ⌝ }
+    ensures { λ _. ⌜ now (bytes .exit) ≡ lentBy rec (now (bytes .entry)) ⌝ }
 {
+    if record::is_whole(rec) {
+        record::encode(rec, bytes);
+    }
+}
+
+// What a call on these bytes leaves of the record by value: where it was refused, the record as it was.
+pub fn settle(rec: Record, answer: Answer, bytes: &[u8]) -> Done
+    requires { ⌜ length (now bytes) ≡ recordSize ⌝ }
+    ensures { λ r. ⌜ r ≡ settled rec answer (now (bytes .entry)) ⌝ }
+{
+    if !answer::is_taken(answer) {
+        return Done { answer, rec };
+    }
     Done {
-        answer: Answer::Refused(why),
-        rec,
+        answer,
+        rec: record::decode(bytes),
     }
 }

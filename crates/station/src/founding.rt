@@ -1,17 +1,19 @@
-// Founding.
+// Founding: in lent bytes, by a list of ids or of bytes; and by value.
 ghost use mathlib.Core.Path.{_≡_};
 ghost use mathlib.Core.Bool.{true};
+ghost use mathlib.Core.List.{[]};
 ghost use Prim.Native.Nat.{_≤_};
 ghost use lib.ListN.{length};
-ghost use lib.Dec.{leb};
 ghost use Rattle.frames.specs.Layout.{shortestToken};
-ghost use Rattle.record.specs.Members.{foundable};
 ghost use Rattle.frames.specs.Token.{tokenBytes};
-ghost use Rattle.station.specs.Reply.{doneOf, followedBy};
-ghost use Rattle.station.specs.Door.{foundAnswer, foundBytes};
+ghost use Rattle.record.specs.Members.{foundable};
+ghost use Rattle.visit.specs.Output.{followedBy};
+ghost use Rattle.station.specs.Reply.{doneOf, answered, Does};
 ghost use Rattle.station.specs.Found.{firstToken, foundedOn};
-use crate::answer;
+ghost use Rattle.station.specs.Over.{foundIn, foundOver};
+ghost use Rattle.station.specs.inner.Value.{listedCount};
 use crate::answer::Answer;
+use crate::done;
 use crate::done::Done;
 use crate::refusal::Refusal;
 use frames::Blocker;
@@ -52,15 +54,22 @@ fn put_first_token(ids: &[u16], own: u16, ring: RingNumber, token: &mut [u8])
     frames::put_token(t, token);
 }
 
-// 1 and 3 to 6, and the ring's first token where all are answered 'yes'. Ruled out: a token written with a
-// refusal; 5 where the ids don't follow.
-pub fn found_answer(ids: &[u16], own: u16, ring: RingNumber, token: &mut [u8]) -> Answer
+// 1 and 3 to 6, of a list of ids; then the ring's first token and a fresh record. Ruled out: a token written with
+// a refusal; 5 where the ids don't follow.
+pub fn found_ids_in(
+    s: &mut [u8],
+    ids: &[u16],
+    own: u16,
+    ring: RingNumber,
+    token: &mut [u8],
+) -> Answer
     ensures { λ r. ⌜
-        (r ≡ foundAnswer (leb shortestToken (length (now (token .entry)))) (now (ids .entry)) own (ring .0))
-        × (now (token .exit) ≡ followedBy
-        (foundBytes (leb shortestToken (length (now (token .entry)))) (now (ids .entry)) own (ring .0))
-        (now (token .entry))) ⌝ }
+        Does answered (foundIn (now (s .entry)) (now (ids .entry)) own (ring .0) (length (now (token .entry)))) r
+        (now (s .entry)) (now (s .exit)) (now (token .entry)) (now (token .exit)) [] [] ⌝ }
 {
+    if s.len() < record::RECORD_SIZE {
+        return Answer::Refused(Refusal::NoRoom);
+    }
     if token.len() < frames::SHORTEST_TOKEN {
         return Answer::Refused(Refusal::NoRoom);
     }
@@ -77,7 +86,42 @@ pub fn found_answer(ids: &[u16], own: u16, ring: RingNumber, token: &mut [u8]) -
         return Answer::Refused(Refusal::BadRing);
     }
     put_first_token(ids, own, ring, token);
+    record::put_fresh(s, ids, own, ring);
     Answer::Founded
+}
+
+// How many ids a list of members has; bytes that are no list (an odd number, or too many ids) have none, and
+// founding by none is refused as founding by them.
+fn id_count(members: &[u8]) -> usize
+    ensures { λ r. ⌜ r ≡ listedCount (now (members .entry)) ⌝ }
+{
+    let n = members.len() / 2;
+    if members.len() != 2 * n {
+        return 0;
+    }
+    if record::MOST_MEMBERS < n {
+        return 0;
+    }
+    n
+}
+
+// The same of a list of members, two bytes an id. Ruled out: a record written with a refusal; an odd list read as
+// a shorter one.
+pub fn found_in(
+    s: &mut [u8],
+    members: &[u8],
+    own: u16,
+    ring: RingNumber,
+    token: &mut [u8],
+) -> Answer
+    ensures { λ r. ⌜
+        Does answered (foundOver (now (s .entry)) (now (members .entry)) own (ring .0) (length (now (token .entry)))) r
+        (now (s .entry)) (now (s .exit)) (now (token .entry)) (now (token .exit)) [] [] ⌝ }
+{
+    let mut ids = [0u16; record::MOST_MEMBERS];
+    let n = id_count(members);
+    words::get_u16s(members, 0, n, &mut ids);
+    found_ids_in(s, &ids[0..n], own, ring, token)
 }
 
 // Founds a station of a ring and hands out the ring's first token. Ruled out: the members sorted; a
@@ -89,12 +133,7 @@ pub fn found_step(rec: Record, ids: &[u16], own: u16, ring: RingNumber, token: &
         ((foundedOn rec (length (now (token .entry))) (now (ids .entry)) own (ring .0)) .frames)
         (now (token .entry))) ⌝ }
 {
-    let answer = found_answer(ids, own, ring, token);
-    if !answer::is_taken(answer) {
-        return Done { answer, rec };
-    }
-    Done {
-        answer,
-        rec: record::fresh_record(ids, own, ring),
-    }
+    let mut bytes = [0u8; record::RECORD_SIZE];
+    let answer = found_ids_in(&mut bytes, ids, own, ring, token);
+    done::settle(rec, answer, &bytes)
 }

@@ -1,48 +1,34 @@
-// Posting.
+// Posting: in lent bytes, and by value.
 ghost use mathlib.Core.Path.{_≡_};
-ghost use Prim.Native.Nat.{_≤_, _<_};
-ghost use lib.ListN.{length};
-ghost use Rattle.frames.specs.Layout.{mostContent};
-ghost use Rattle.record.specs.Size.{mostPosts};
-ghost use Rattle.station.specs.Reply.{doneOf};
-ghost use Rattle.station.specs.Door.{postAnswer};
-ghost use Rattle.station.specs.Post.{withPost, posted};
-use crate::answer;
+ghost use mathlib.Core.List.{[]};
+ghost use Rattle.station.specs.Reply.{doneOf, answered, Does};
+ghost use Rattle.station.specs.Post.{posted};
+ghost use Rattle.station.specs.Over.{postOver};
 use crate::answer::Answer;
 use crate::done;
 use crate::done::Done;
 use crate::refusal::Refusal;
 use record::Record;
 
-fn with_post(rec: Record, service: u16, content: &[u8]) -> Record
-    requires { ⌜ (rec .posts .count < mostPosts) × (length (now content) ≤ mostContent) ⌝ }
-    ensures { λ r. ⌜ r ≡ withPost rec service (now (content .entry)) ⌝ }
+// 2 and 7 to 9; then one post more waits. Ruled out: 9 with an empty queue; a record of another length taken.
+pub fn post_in(s: &mut [u8], service: u16, content: &[u8]) -> Answer
+    ensures { λ r. ⌜
+        Does answered (postOver (now (s .entry)) service (now (content .entry))) r
+        (now (s .entry)) (now (s .exit)) [] [] [] [] ⌝ }
 {
-    let log = rec.log;
-    let turn = rec.turn;
-    let posts = record::queue(rec.posts, service, content);
-    Record {
-        own: rec.own,
-        log,
-        turn,
-        posts,
+    if !record::is_whole_in(s) {
+        return Answer::Refused(Refusal::NotWhole);
     }
-}
-
-// 7 to 9, of a whole record with so many posts. Ruled out: 9 with an empty queue; 8 where the content is too
-// long.
-pub fn post_answer(count: u8, service: u16, content: &[u8]) -> Answer
-    ensures { λ r. ⌜ r ≡ postAnswer count service (now (content .entry)) ⌝ }
-{
     if frames::MOST_CONTENT < content.len() {
         return Answer::Refused(Refusal::LongContent);
     }
     if frames::MOST_SERVICE < service {
         return Answer::Refused(Refusal::OtherService);
     }
-    if record::MOST_POSTS <= count as usize {
+    if record::MOST_POSTS <= record::post_count(s) as usize {
         return Answer::Refused(Refusal::PostsFull);
     }
+    record::put_post(s, service, content);
     Answer::Posted
 }
 
@@ -50,15 +36,8 @@ pub fn post_answer(count: u8, service: u16, content: &[u8]) -> Answer
 pub fn post_step(rec: Record, service: u16, content: &[u8]) -> Done
     ensures { λ r. ⌜ r ≡ doneOf (posted rec service (now (content .entry))) ⌝ }
 {
-    if !record::is_whole(rec) {
-        return done::refuse(rec, Refusal::NotWhole);
-    }
-    let answer = post_answer(rec.posts.count, service, content);
-    if !answer::is_taken(answer) {
-        return Done { answer, rec };
-    }
-    Done {
-        answer,
-        rec: with_post(rec, service, content),
-    }
+    let mut bytes = [0u8; record::RECORD_SIZE];
+    done::lend(rec, &mut bytes);
+    let answer = post_in(&mut bytes, service, content);
+    done::settle(rec, answer, &bytes)
 }

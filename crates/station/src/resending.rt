@@ -1,43 +1,36 @@
-// Resending.
+// Resending: from lent bytes, and by value.
 ghost use mathlib.Core.Path.{_≡_};
-ghost use Prim.Native.Nat.{_≤_};
+ghost use mathlib.Core.List.{[]};
 ghost use lib.ListN.{length};
-ghost use Rattle.frames.specs.Layout.{longestToken};
-ghost use Rattle.record.specs.Turn.{remembered};
-ghost use Rattle.station.specs.Reply.{doneOf, followedBy};
-ghost use Rattle.station.specs.Door.{resendAnswer, resendBytes};
+ghost use Rattle.visit.specs.Output.{followedBy};
+ghost use Rattle.station.specs.Reply.{doneOf, answered, Does};
 ghost use Rattle.station.specs.Resend.{resent};
-use crate::answer;
+ghost use Rattle.station.specs.Over.{resendOver};
 use crate::answer::Answer;
+use crate::done;
 use crate::done::Done;
 use crate::refusal::Refusal;
 use crate::room;
 use record::Record;
-use record::Turn;
 
-// The remembered token's bytes to the front.
-pub fn put_remembered(t: Turn, frames: &mut [u8])
-    requires { ⌜ (t .size ≤ longestToken) × (longestToken ≤ length (now frames)) ⌝ }
-    ensures { λ _. ⌜ now (frames .exit) ≡ followedBy (remembered t) (now (frames .entry)) ⌝ }
-{
-    let token = t.token;
-    words::put_bytes(frames, 0, &token[0..t.size as usize]);
-}
-
-// 1 and 19, by what a whole record keeps. Ruled out: another token written; a token without leave.
-pub fn resend_whole(t: Turn, frames: &mut [u8]) -> Answer
-    requires { ⌜ t .size ≤ longestToken ⌝ }
+// 1, 2 and 19; then the remembered token is written out. Ruled out: another token written; 2 where the buffer is
+// too small already.
+pub fn resend_in(s: &[u8], frames: &mut [u8]) -> Answer
     ensures { λ r. ⌜
-        (r ≡ resendAnswer t (length (now (frames .entry))))
-        × (now (frames .exit) ≡ followedBy (resendBytes t (length (now (frames .entry)))) (now (frames .entry))) ⌝ }
+        Does answered (resendOver (now (s .entry)) (length (now (frames .entry)))) r
+        (now (s .entry)) (now (s .entry)) (now (frames .entry)) (now (frames .exit)) [] [] ⌝ }
 {
     if !room::resending_fits(frames.len()) {
         return Answer::Refused(Refusal::NoRoom);
     }
+    if !record::is_whole_in(s) {
+        return Answer::Refused(Refusal::NotWhole);
+    }
+    let t = record::turn_in(s);
     if t.size == 0 {
         return Answer::Refused(Refusal::NothingToResend);
     }
-    put_remembered(t, frames);
+    visit::put_remembered(t, frames);
     Answer::Resent(t.size)
 }
 
@@ -49,13 +42,8 @@ pub fn resend_step(rec: Record, frames: &mut [u8]) -> Done
         ((resent rec (length (now (frames .entry)))) .frames)
         (now (frames .entry))) ⌝ }
 {
-    if !record::is_whole(rec) {
-        let room = room::resending_fits(frames.len());
-        return Done {
-            answer: answer::not_whole(room),
-            rec,
-        };
-    }
-    let answer = resend_whole(rec.turn, frames);
-    Done { answer, rec }
+    let mut bytes = [0u8; record::RECORD_SIZE];
+    done::lend(rec, &mut bytes);
+    let answer = resend_in(&bytes, frames);
+    done::settle(rec, answer, &bytes)
 }

@@ -1,3 +1,1 @@
-pub mod OverLaws
-pub mod FoundOver
-pub mod ThereLaws
+pub mod Demand

@@ -4,7 +4,8 @@ use mathlib.Core.List.{List}
 use lib.ListN.{length}
 use borrow.Author.Needs.{needs}
 use Rattle.station.specs.Answer.{outcomeOf}
-use Rattle.station.specs.Reply.{Reply, followedBy}
+use Rattle.station.specs.Reply.{Reply}
+use Rattle.visit.specs.Output.{followedBy}
 use Rattle.totem.specs.Over.{arriveOver}
 use Rattle.ring.proofs.PlaceLaws.{said-at, left-at}
 use Rattle.ring.proofs.stations.arrive_at.Statement.{statement}

@@ -6,7 +6,8 @@ use borrow.Author.Tests.{not-true, not-false}
 use Rattle.record.specs.Head.{recordIn}
 use Rattle.record.specs.Ring.{ids, thisRing}
 use Rattle.record.specs.declared.Record.{Record}
-use Rattle.station.proofs.ArriveLaws.{leaves-deliveries, refuses-deliveries, count-fits, ring-asked, sender-asked, message-other-ring, message-not-member, message-passes}
+use Rattle.station.proofs.ArriveLaws.{heard-does, count-fits, ring-asked, sender-asked, message-other-ring, message-not-member, message-passes}
+use Rattle.station.proofs.DoesLaws.{refuses, known}
 use Rattle.station.proofs.arriving.message_arrived.Statement.{statement}
 use Rattle.station.proofs.arriving.message_arrived.Tie as tie
 
@@ -19,7 +20,7 @@ part-ids-end c = let start = c .before .before .before .before .before .before i
 returns : tie.Need-returns
 returns c =
     let start = c .before .before .before .before .before .before .before .before .before in
-    refuses-deliveries _ (start .args .h) (start .args .s .now) _ _ (start .pre .0)
+    refuses _ (the-record start) _ (start .args .s .now) _ _
     (message-other-ring (the-record start) (start .args .m) _ (ring-asked (the-record start) _ _ (start .args .m .header) (c .before .this-ring .ensures) (not-true _ (c .if1 .taken))))
 
 -- past 13
@@ -32,7 +33,7 @@ this c = ring-asked (the-record (start c)) _ _ (start c .args .m .header) (c .be
 returns-2 : tie.Need-returns-2
 returns-2 c =
     let begun = start (c .before .before) in
-    refuses-deliveries _ (begun .args .h) (begun .args .s .now) _ _ (begun .pre .0)
+    refuses _ (the-record begun) _ (begun .args .s .now) _ _
     (message-not-member (the-record begun) (begun .args .m) _ (this (c .before .before)) (sender-asked (the-record begun) _ _ (begun .args .m .sender) (c .before .is-member .ensures) (not-true _ (c .if2 .taken))))
 
 hear-requires : tie.Need-hear-requires
@@ -50,14 +51,13 @@ hear-requires c κs =
 
 returns-3 : tie.Need-returns-3
 returns-3 c =
-    let begun = start (c .before .before .before .before .before .before .before .before .before) in
-    leaves-deliveries _ _ _ _ _ _
-    (message-passes (the-record begun) (begun .args .m) _ (this (c .before .before .before .before .before .before .before .before .before)) (sender-asked (the-record begun) _ _ (begun .args .m .sender) (c .before .before .before .before .before .before .before .before .is-member .ensures) (not-false _ (c .before .before .before .before .before .before .before .if2 .left))))
-    (c .before .before .before .before .hear .ensures)
+    let here = c .before .before .before .before .before .before .before .before .before .before in
+    let begun = start here in
+    known _ _ _ _ _ _ _ _ _
+    (message-passes (the-record begun) (begun .args .m) _ (this here) (sender-asked (the-record begun) _ _ (begun .args .m .sender) (c .before .before .before .before .before .before .before .before .before .is-member .ensures) (not-false _ (c .before .before .before .before .before .before .before .before .if2 .left))))
+    (heard-does (the-record begun) (begun .args .m) _ _ _ (begun .args .s .now) _ _ _ (begun .pre .0 .size) (c .before .before .before .before .before .hear .ensures) (c .heard-answer .ensures))
 
 pub message-arrived-spec : {M : Type 1} → statement M
 message-arrived-spec =
     tie.close
-    (tie.spec (λ c. search needs) (λ c. search needs) (λ c. search needs) part-ids-end (λ c κs. search needs)
-    returns (λ c κs. search needs) returns-2
-    hear-requires (λ c. search needs) (λ c. search needs) returns-3)
+    (tie.spec (λ c. search needs) (λ c. search needs) (λ c. search needs) part-ids-end (λ c κs. search needs) returns (λ c κs. search needs) returns-2 hear-requires (λ c κs. search needs) (λ c. search needs) (λ c. search needs) returns-3)

@@ -7,8 +7,9 @@ use Rattle.record.specs.Head.{recordIn, contentsIn}
 use Rattle.record.specs.Layout.{logAt}
 use Rattle.record.specs.Ring.{ids, thisRing, tokenMembers}
 use Rattle.record.specs.declared.Record.{Record}
-use Rattle.station.specs.Arrive.{coversHeld}
-use Rattle.station.proofs.ArriveLaws.{leaves-both, refuses-both, count-fits, ring-asked, members-asked, token-other-ring, token-not-member, token-elsewhere, token-old, token-last, token-below, token-passes}
+use Rattle.visit.specs.Acceptable.{coversHeld}
+use Rattle.station.proofs.ArriveLaws.{accepted-does, count-fits, ring-asked, members-asked, token-other-ring, token-not-member, token-elsewhere, token-old, token-last, token-below, token-passes}
+use Rattle.station.proofs.DoesLaws.{refuses, known}
 use Rattle.station.proofs.arriving.token_arrived.Statement.{statement}
 use Rattle.station.proofs.arriving.token_arrived.Tie as tie
 
@@ -21,7 +22,7 @@ part-ids-end c = let start = c .before .before .before .before .before .before i
 returns : tie.Need-returns
 returns c =
     let start = c .before .before .before .before .before .before .before .before .before in
-    refuses-both _ (start .args .h) (start .args .s .now) _ _ _ (start .pre .0)
+    refuses _ (the-record start) _ (start .args .s .now) _ _
     (token-other-ring (the-record start) (start .args .t) (ring-asked (the-record start) _ _ (start .args .t .header) (c .before .this-ring .ensures) (not-true _ (c .if1 .taken))))
 
 -- past 13
@@ -34,7 +35,7 @@ this c = ring-asked (the-record (start c)) _ _ (start c .args .t .header) (c .be
 returns-2 : tie.Need-returns-2
 returns-2 c =
     let begun = start (c .before .before) in
-    refuses-both _ (begun .args .h) (begun .args .s .now) _ _ _ (begun .pre .0)
+    refuses _ (the-record begun) _ (begun .args .s .now) _ _
     (token-not-member (the-record begun) (begun .args .t) (this (c .before .before)) (members-asked (the-record begun) _ _ (begun .args .t) (c .before .token-members .ensures) (not-true _ (c .if2 .taken))))
 
 -- past 14
@@ -44,25 +45,25 @@ members c = let begun = start (c .before .before) in members-asked (the-record b
 returns-3 : tie.Need-returns-3
 returns-3 c =
     let begun = start (c .before .before .before .before .before) in
-    refuses-both _ (begun .args .h) (begun .args .s .now) _ _ _ (begun .pre .0)
+    refuses _ (the-record begun) _ (begun .args .s .now) _ _
     (token-elsewhere (the-record begun) _ (this (c .before .before .before .before .before)) (members (c .before .before .before)) (c .if3 .taken))
 
 returns-4 : tie.Need-returns-4
 returns-4 c =
     let begun = start (c .before .before .before .before .before .before .before .before) in
-    refuses-both _ (begun .args .h) (begun .args .s .now) _ _ _ (begun .pre .0)
+    refuses _ (the-record begun) _ (begun .args .s .now) _ _
     (token-old (the-record begun) (begun .args .t) (this (c .before .before .before .before .before .before .before .before)) (members (c .before .before .before .before .before .before)) (c .before .before .before .if3 .left) (c .if4 .taken))
 
 returns-5 : tie.Need-returns-5
 returns-5 c =
     let begun = start (c .before .before .before .before .before .before .before .before .before .before) in
-    refuses-both _ (begun .args .h) (begun .args .s .now) _ _ _ (begun .pre .0)
+    refuses _ (the-record begun) _ (begun .args .s .now) _ _
     (token-last (the-record begun) _ (this (c .before .before .before .before .before .before .before .before .before .before)) (members (c .before .before .before .before .before .before .before .before)) (c .before .before .before .before .before .if3 .left) (c .before .before .if4 .left) (c .if5 .taken))
 
 returns-6 : tie.Need-returns-6
 returns-6 c =
     let begun = start (c .before .before .before .before .before .before .before .before .before .before .before .before) in
-    refuses-both _ (begun .args .h) (begun .args .s .now) _ _ _ (begun .pre .0)
+    refuses _ (the-record begun) _ (begun .args .s .now) _ _
     (token-below (the-record begun) (begun .args .t) (this (c .before .before .before .before .before .before .before .before .before .before .before .before)) (members (c .before .before .before .before .before .before .before .before .before .before)) (c .before .before .before .before .before .before .before .if3 .left) (c .before .before .before .before .if4 .left) (c .before .before .if5 .left)
     (sym (c .before .covers-held .ensures (contentsIn (begun .args .s .now) logAt)) ∙ not-true _ (c .if6 .taken)))
 
@@ -94,9 +95,9 @@ accept-requires c κs =
 returns-7 : tie.Need-returns-7
 returns-7 c =
     let begun = visited (c .before .before .before .before .before .before .before .before .before .before) in
-    leaves-both _ _ _ _ _ _ _ _
+    known _ _ _ _ _ _ _ _ _
     (token-passes (the-record begun) _ (this (c .before .before .before .before .before .before .before .before .before .before .before .before .before .before .before .before .before .before .before .before .before .before)) (members (c .before .before .before .before .before .before .before .before .before .before .before .before .before .before .before .before .before .before .before .before)) (c .before .before .before .before .before .before .before .before .before .before .before .before .before .before .before .before .before .if3 .left) (c .before .before .before .before .before .before .before .before .before .before .before .before .before .before .if4 .left) (c .before .before .before .before .before .before .before .before .before .before .before .before .if5 .left) (covers (c .before .before .before .before .before .before .before .before .before .before)))
-    (c .before .before .before .before .before .before .accept .ensures)
+    (accepted-does _ _ (begun .args .s .now) _ _ _ _ _ (begun .pre .0 .size) (c .before .before .before .before .before .before .accept .ensures))
 
 pub token-arrived-spec : {M : Type 1} → statement M
 token-arrived-spec =

@@ -42,8 +42,8 @@ use denote.Triple.Clauses.{ensured, lasts}
 use denote.Triple.Table.{entered, cited}
 use denote.Triple.Walked.{says, Stays, stay-ref, stay-none, stay-none-slice, gave-slice, walkOf, AllGo, goes-ref, goes-none, goes-none-slice, goes-gave-slice, Walks, ends-at, walked, walk-meets}
 use denote.Exit.{yes}
-use Rattle.station.specs.Answer.{outcomeOf}
-use Rattle.station.specs.Reply.{doneOf, followedBy}
+use Rattle.station.specs.Reply.{doneOf}
+use Rattle.visit.specs.Output.{followedBy}
 use Rattle.station.specs.Found.{foundedOn}
 use Rattle.record.specs.declared.Record.{Record}
 use Rattle.station.specs.declared.done.Done.{Done}
@@ -138,7 +138,7 @@ module _ {M : Type 1} (𝓤 : URA M) (H : Heap 𝓤) (A : Atoms 𝓤) (W : Given
       → ent 𝓤 (⋆ 𝓤 H A (‵ (fobs γ (R .coded .code d)) ∷ ‵ (fbor κ (Body (mem R) b o γ)) ∷ ‵ (flft κ q) ∷ ‵ (N.the-row .own t (u ∷ [])) ∷ Toks ∷ ‵ (finally u8 (x₄ .name) z₄) ∷ ‵ Own₁ ∷ [])) (Post u)
   exits r d t u z₄ e e₁ e₂ l₄ =
       qed W (‵ (fobs γ (R .coded .code d)) ∷ ‵ (fbor κ (Body (mem R) b o γ)) ∷ ‵ (flft κ q) ∷ ‵ (N.the-row .own t (u ∷ [])) ∷ Toks ∷ ‵ (finally u8 (x₄ .name) z₄) ∷ ‵ Own₁ ∷ []) ∵
-      suffices ! _ (ends-at 𝓤 H A f.ended stayed (f.clauses 𝓤 H A at-mem run) W (((κ, (κ₁, (κ₂, tt))), (q, (q₁, (q₂, tt))), bounds, x, at), tt) u t (d, (tt, (tt, (tt, (z₄, tt))))) (tt, (tt, (tt, (tt, (l₄, tt)))))) $ says ! (e₁ ∙ ap (λ (p : Done). p .rec) (e .0), e₂ ∙ ap (λ (p : Done). p .answer) (e .0), e .1, ap (λ (a : Answer). outcomeOf a) (e₂ ∙ ap (λ (p : Done). p .answer) (e .0))) $
+      suffices ! _ (ends-at 𝓤 H A f.ended stayed (f.clauses 𝓤 H A at-mem run) W (((κ, (κ₁, (κ₂, tt))), (q, (q₁, (q₂, tt))), bounds, x, at), tt) u t (d, (tt, (tt, (tt, (z₄, tt))))) (tt, (tt, (tt, (tt, (l₄, tt)))))) $ says ! (e₁ ∙ ap (λ (p : Done). p .rec) (e .0), e₂ ∙ ap (λ (p : Done). p .answer) (e .0), e .1) $
       move ! (2 ∷ 4 ∷ []) $ join ! $ frame ! $ feqI ! (List Val) (vptr b o ∷ []) (vptr b o ∷ []) refl $ fjoin3 ! $ nothing ! $ move ! (3 ∷ 0 ∷ []) $ fjoin ! $ owned ! Q.the-row (Is Q.the-row) (LL.makes Q.the-type Q′.the-plain 𝓤 H A) x₃ _ f₃ $ fjoin ! $ owned ! u16 (Is u16) (uint-makes 𝓤 H A W w16) x₂ _ (refl, f₂) $ fjoin ! $ move ! (3 ∷ 0 ∷ []) $ fjoin ! $ move ! (1 ∷ 0 ∷ []) $ fjoin ! $ done !
 
   module _ (C : Calls 𝓤 H) (Λ : Loops 𝓤 H) (fm : FmC 𝓤 H (W .laws) C) (known : Triple 𝓤 (C #step) (Step 𝓤 H A at-mem run)) (known-rec : Triple 𝓤 (C #rec-of) (RecOf 𝓤 H A at-mem run)) (known-answer : Triple 𝓤 (C #answer-of) (AnswerOf 𝓤 H A at-mem run)) where

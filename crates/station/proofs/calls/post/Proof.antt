@@ -41,7 +41,6 @@ use denote.Triple.Clauses.{ensured, lasts}
 use denote.Triple.Table.{entered, cited}
 use denote.Triple.Walked.{says, Stays, stay-ref, stay-none, stay-none-slice, walkOf, AllGo, goes-ref, goes-none, goes-none-slice, Walks, ends-at, walked, walk-meets}
 use denote.Exit.{yes}
-use Rattle.station.specs.Answer.{outcomeOf}
 use Rattle.station.specs.Reply.{doneOf}
 use Rattle.station.specs.Post.{posted}
 use Rattle.record.specs.declared.Record.{Record}
@@ -126,7 +125,7 @@ module _ {M : Type 1} (𝓤 : URA M) (H : Heap 𝓤) (A : Atoms 𝓤) (W : Given
       → ent 𝓤 (⋆ 𝓤 H A (‵ (fobs γ (R .coded .code d)) ∷ ‵ (fbor κ (Body (mem R) b o γ)) ∷ ‵ (flft κ q) ∷ ‵ (N.the-row .own t (u ∷ [])) ∷ Toks ∷ ‵ Own₂ ∷ [])) (Post u)
   exits r d t u e e₁ e₂ =
       qed W (‵ (fobs γ (R .coded .code d)) ∷ ‵ (fbor κ (Body (mem R) b o γ)) ∷ ‵ (flft κ q) ∷ ‵ (N.the-row .own t (u ∷ [])) ∷ Toks ∷ ‵ Own₂ ∷ []) ∵
-      suffices ! _ (ends-at 𝓤 H A f.ended stayed (f.clauses 𝓤 H A at-mem run) W (((κ, (κ₁, tt)), (q, (q₁, tt)), bounds, x, at), tt) u t (d, (tt, (tt, tt))) (tt, (tt, (tt, tt)))) $ says ! (e₁ ∙ ap (λ (p : Done). p .rec) (e), e₂ ∙ ap (λ (p : Done). p .answer) (e), ap (λ (a : Answer). outcomeOf a) (e₂ ∙ ap (λ (p : Done). p .answer) (e))) $
+      suffices ! _ (ends-at 𝓤 H A f.ended stayed (f.clauses 𝓤 H A at-mem run) W (((κ, (κ₁, tt)), (q, (q₁, tt)), bounds, x, at), tt) u t (d, (tt, (tt, tt))) (tt, (tt, (tt, tt)))) $ says ! (e₁ ∙ ap (λ (p : Done). p .rec) (e), e₂ ∙ ap (λ (p : Done). p .answer) (e)) $
       move ! (2 ∷ 4 ∷ []) $ join ! $ frame ! $ feqI ! (List Val) (vptr b o ∷ []) (vptr b o ∷ []) refl $ fjoin3 ! $ nothing ! $ move ! (3 ∷ 0 ∷ []) $ fjoin ! $ owned ! u16 (Is u16) (uint-makes 𝓤 H A W w16) x₁ _ (refl, f₁) $ fjoin ! $ move ! (1 ∷ 0 ∷ []) $ fjoin ! $ done !
 
   module _ (C : Calls 𝓤 H) (Λ : Loops 𝓤 H) (fm : FmC 𝓤 H (W .laws) C) (known : Triple 𝓤 (C #step) (Step 𝓤 H A at-mem run)) (known-rec : Triple 𝓤 (C #rec-of) (RecOf 𝓤 H A at-mem run)) (known-answer : Triple 𝓤 (C #answer-of) (AnswerOf 𝓤 H A at-mem run)) where

@@ -1,0 +1,9 @@
+pub mod Output
+pub mod Level
+pub mod Deliver
+pub mod Message
+pub mod Visit
+pub mod Acceptable
+pub mod Within
+pub mod Reads
+pub mod inner
