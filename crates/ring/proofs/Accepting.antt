@@ -28,10 +28,10 @@ use Rattle.station.specs.EveryArrival.{Acceptable, ArrivedCase, refuses, hears,
 use Rattle.station.proofs.ArrivedCases.{ReadCase, unread, message, token, read-case, arrived-case}
 use Rattle.station.proofs.TokenLaws.{token-passes}
 use Rattle.station.proofs.VisitReads.{visit-reads}
-use Rattle.ordering.specs.Frame as seen
+use Rattle.ordering.specs.inner.Frame as seen
 use Rattle.ring.specs.Calls.{Call, post, arrival, resending, replyTo}
-use Rattle.ring.specs.Log as called
-use Rattle.ring.specs.Log.{writtenBy, acceptsToken}
+use Rattle.ring.specs.History as called
+use Rattle.ring.specs.History.{writtenBy, acceptsToken}
 use Rattle.ring.specs.Newest.{lastOf}
 use Rattle.ring.proofs.View.{storeOf}
 use Rattle.ring.proofs.SeenLaws.{no-frames, none-accepted}
@@ -101,10 +101,10 @@ module _ (r : Record) (frame : List ℕ) (t : Token) (read : readOf frame ≡ aT
         ok .covers,
       )
 
-  pub entry-accepted : (place : ℕ) (frames deliveries : List ℕ) → mostFrames ≤ length frames → mostDeliveries ≤ length deliveries
-      → called.accepted (record { call = arrival place frame frames deliveries; reply = replyTo r (arrival place frame frames deliveries) }) ≡ true
-  unfolding called.accepted
-  entry-accepted place frames deliveries enough room =
+  pub event-accepted : (place : ℕ) (frames deliveries : List ℕ) → mostFrames ≤ length frames → mostDeliveries ≤ length deliveries
+      → called.isAccepted (record { call = arrival place frame frames deliveries; reply = replyTo r (arrival place frame frames deliveries) }) ≡ true
+  unfolding called.isAccepted
+  event-accepted place frames deliveries enough room =
       ap (λ (x : Reply). acceptsToken (some frame) (framesIn (x .frames))) (arrived-accepts (length frames) (length deliveries) enough room)
       ∙ ap (acceptsToken (some frame)) (visit-reads (visit r t) ok .within)
       ∙ accepts-visit (visit r t) ok frame read
@@ -126,8 +126,8 @@ arrival-passes r frame reply (accepts t read ok e) h =
     subst (LastPasses r) (sym (ap (λ (x : Reply). framesIn (x .frames)) e ∙ visit-reads (visit r t) ok .within))
     (rw (last-written (visit r t) ok) (token-passes (visit r t) ok))
 
-pub last-passes : (r : Record) (c : Call) → called.accepted (record { call = c; reply = replyTo r c }) ≡ true → LastPasses r (writtenBy (record { call = c; reply = replyTo r c }))
-unfolding called.accepted
+pub last-passes : (r : Record) (c : Call) → called.isAccepted (record { call = c; reply = replyTo r c }) ≡ true → LastPasses r (writtenBy (record { call = c; reply = replyTo r c }))
+unfolding called.isAccepted
 last-passes r (post place service content) h = absurd (false≢true h)
 last-passes r (arrival place frame frames deliveries) h = arrival-passes r frame (replyTo r (arrival place frame frames deliveries)) (arrived-case r frame (length frames) (length deliveries)) h
 last-passes r (resending place frames) h = absurd (false≢true h)

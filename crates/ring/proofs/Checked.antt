@@ -11,8 +11,8 @@ use Rattle.frames.specs.Trials.{same}
 use Rattle.frames.proofs.Facts.{part}
 use Rattle.record.specs.declared.Record.{Record}
 use Rattle.ordering.specs.Lists.{Among}
-use Rattle.ring.specs.Calls.{Call, post, arrival, resending, placeOf}
-use Rattle.ring.specs.Log.{Entry, Written, writtenAt, writtenIn, OnCable}
+use Rattle.ring.specs.Calls.{Call, post, arrival, resending, stationOf}
+use Rattle.ring.specs.History.{Event, Written, writtenAt, writtenIn, OnCable}
 use Rattle.ring.specs.Run.{Ring, start, firstFrame, step, run}
 use Rattle.ring.specs.Demand.{accountOf, Handed, CanAfter}
 use Rattle.ring.proofs.Going.{Possible}
@@ -24,8 +24,8 @@ unfoldable pub anyFrame : List ℕ → List Written → Bool
 anyFrame f [] = false
 anyFrame f (w ∷ ws) = same f (w .frame) || anyFrame f ws
 
-abbrev pub onCable : List ℕ → List Entry → List ℕ → Bool
-onCable first log f = same f first || anyFrame f (writtenIn log)
+abbrev pub onCable : List ℕ → List Event → List ℕ → Bool
+onCable first history f = same f first || anyFrame f (writtenIn history)
 
 same-true : (xs ys : List ℕ) → same xs ys ≡ true → xs ≡ ys
 same-true [] [] e = refl
@@ -49,35 +49,35 @@ any-among f (w ∷ ws) e = by-first (either (same f (w .frame)) (anyFrame f ws) 
     by-first (inl s) rest = (w .place, inl (ap (writtenAt (w .place)) (same-true f (w .frame) s)))
     by-first (inr s) rest = let a = rest s in (a .0, inr (a .1))
 
-on-cable : (first : List ℕ) (log : List Entry) (f : List ℕ) → onCable first log f ≡ true → OnCable first log f
-on-cable first log f e = by-first (either (same f first) (anyFrame f (writtenIn log)) e)
+on-cable : (first : List ℕ) (history : List Event) (f : List ℕ) → onCable first history f ≡ true → OnCable first history f
+on-cable first history f e = by-first (either (same f first) (anyFrame f (writtenIn history)) e)
   where
-    by-first : (same f first ≡ true) ⊎ (anyFrame f (writtenIn log) ≡ true) → OnCable first log f
+    by-first : (same f first ≡ true) ⊎ (anyFrame f (writtenIn history) ≡ true) → OnCable first history f
     by-first (inl s) = inl (same-true f first s)
-    by-first (inr s) = inr (any-among f (writtenIn log) s)
+    by-first (inr s) = inr (any-among f (writtenIn history) s)
 
 -- ---- the calls can be made
 
-abbrev pub handed : List ℕ → List Entry → Call → Bool
-handed first log (post place service content) = true
-handed first log (arrival place frame frames deliveries) = onCable first log frame
-handed first log (resending place frames) = true
+abbrev pub handed : List ℕ → List Event → Call → Bool
+handed first history (post place service content) = true
+handed first history (arrival place frame frames deliveries) = onCable first history frame
+handed first history (resending place frames) = true
 
 unfoldable pub possible : ℕ → List ℕ → Ring → List Call → Bool
 possible size first s [] = true
-possible size first s (c ∷ cs) = ltb (placeOf c) size && handed first (s .log) c && possible size first (step s c) cs
+possible size first s (c ∷ cs) = ltb (stationOf c) size && handed first (s .history) c && possible size first (step s c) cs
 
-handed-over : (first : List ℕ) (log : List Entry) (c : Call) → handed first log c ≡ true → Handed first log c
-handed-over first log (post place service content) e = tt
-handed-over first log (arrival place frame frames deliveries) e = on-cable first log frame e
-handed-over first log (resending place frames) e = tt
+handed-over : (first : List ℕ) (history : List Event) (c : Call) → handed first history c ≡ true → Handed first history c
+handed-over first history (post place service content) e = tt
+handed-over first history (arrival place frame frames deliveries) e = on-cable first history frame e
+handed-over first history (resending place frames) e = tt
 
 is-possible : (size : ℕ) (first : List ℕ) (s : Ring) (cs : List Call) → possible size first s cs ≡ true → Possible size first s cs
 unfolding possible
 is-possible size first s [] e = tt
 is-possible size first s (c ∷ cs) e = (
-  ltb-true (placeOf c) size (part e (λ (f : ltb (placeOf c) size ≡ false). rw f)),
-  handed-over first (s .log) c (part e (λ (f : handed first (s .log) c ≡ false). simp (f, and-false))),
+  ltb-true (stationOf c) size (part e (λ (f : ltb (stationOf c) size ≡ false). rw f)),
+  handed-over first (s .history) c (part e (λ (f : handed first (s .history) c ≡ false). simp (f, and-false))),
   is-possible size first (step s c) cs (part e (λ (f : possible size first (step s c) cs ≡ false). simp (f, and-false))),
 )
 

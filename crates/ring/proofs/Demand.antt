@@ -7,7 +7,7 @@ use mathlib.Core.List.{List, []}
 use lib.ListN.{length}
 use Rattle.record.specs.Members.{membersCounted, idsFollow, ringInRange}
 use Rattle.record.specs.declared.Record.{Record}
-use Rattle.ordering.specs.Demand as ordered
+use Rattle.ordering.specs.inner.Demand as ordered
 use Rattle.ordering.proofs.Theorem.{demand₃ as demand-ordered}
 use Rattle.ring.specs.Calls.{Call}
 use Rattle.ring.specs.Run.{records, firstFrame}

@@ -24,9 +24,9 @@ use Rattle.station.specs.Within.{framesIn}
 use Rattle.station.specs.EveryArrival.{Each, HeldReads}
 use Rattle.station.proofs.FrameLaws.{reads-exact}
 use Rattle.station.proofs.WithinLaws.{frames-within}
-use Rattle.ordering.specs.Frame as seen
+use Rattle.ordering.specs.inner.Frame as seen
 use Rattle.record.specs.Ring.{isToken}
-use Rattle.ring.specs.Log.{sameRing}
+use Rattle.ring.specs.History.{sameRing}
 use Rattle.ring.proofs.View.{seenToken, tokenIn, messageIn, frameBy, frameSeen}
 use Rattle.ring.proofs.Law.{Rewrites}
 use Rattle.ring.proofs.StoreLaws.{messageHeld}

@@ -25,21 +25,21 @@ use Rattle.station.specs.declared.answer.Answer.the-variants.{Kept, Had, Ahead}
 use Rattle.station.proofs.ArrivedCases.{arrived-case}
 use Rattle.station.proofs.FrameLaws.{heard-reads}
 use Rattle.station.proofs.MessageWhole.{Onward, heard-onward}
-use Rattle.ordering.specs.Frame as seen
-use Rattle.ordering.specs.Station as abstract
-use Rattle.ordering.specs.Run as ordered
+use Rattle.ordering.specs.inner.Frame as seen
+use Rattle.ordering.specs.inner.Station as abstract
+use Rattle.ordering.specs.inner.Run as ordered
 use Rattle.ring.specs.Calls.{arrival, replyTo}
-use Rattle.ring.specs.Log.{saidKept}
-use Rattle.ring.proofs.View.{stationSeen, frameSeen, messageIn, leaveOf}
+use Rattle.ring.specs.History.{saidKept}
+use Rattle.ring.proofs.View.{stationSeen, frameSeen, messageIn, resendableOf}
 use Rattle.ring.proofs.Law.{Rewrites, Sight, as-hearing}
 use Rattle.ring.proofs.StoreLaws.{messageHeld, store-delivered, good-held, due-same}
-use Rattle.ring.proofs.SeenLaws.{SeenReply, seen-as, no-frames, entry-unwritten, entry-same, station-same}
+use Rattle.ring.proofs.SeenLaws.{SeenReply, seen-as, no-frames, event-unwritten, event-same, station-same}
 use Rattle.ring.proofs.QuietLaw.{sight-refused}
 use Rattle.ring.proofs.FrameLaws.{same-itself, frame-message, handed-seen, message-not-token, unread-not-message, unread-not-token}
 use Rattle.ring.proofs.HeardLog.{After, heard-log, same-header}
 
-resend-ended : (t : Turn) → leaveOf (resendEnded t) ≡ none
-unfolding leaveOf resendEnded
+resend-ended : (t : Turn) → resendableOf (resendEnded t) ≡ none
+unfolding resendableOf resendEnded
 resend-ended t = refl
 
 -- ---- the same from equal parts
@@ -120,9 +120,9 @@ module _ (r : Record) (place : ℕ) (frame a b : List ℕ) (m : Message) (read :
       record {
         at = refl;
         station = heard-station;
-        entry =
-            entry-unwritten (ringHeader (current r)) (arrival place frame a b) (messageHeard r m (contentOf frame)) (heard-unwritten r m (contentOf frame))
-            ∙ entry-same place _ _ [] _ _ heard-kept heard-handed;
+        event =
+            event-unwritten (ringHeader (current r)) (arrival place frame a b) (messageHeard r m (contentOf frame)) (heard-unwritten r m (contentOf frame))
+            ∙ event-same place _ _ [] _ _ heard-kept heard-handed;
         ring = heard-ring;
         written = rw (heard-unwritten r m (contentOf frame), no-frames) tt;
       }

@@ -27,9 +27,9 @@ use Rattle.station.proofs.RingFacts.{header-here}
 use Rattle.station.proofs.LevelLaws.{raised-level}
 use Rattle.station.specs.EveryArrival.{Hearable}
 use Rattle.station.proofs.MessageWhole.{Free, kept-free}
-use Rattle.ordering.specs.Frame as seen
-use Rattle.ordering.specs.Station as abstract
-use Rattle.ring.specs.Log.{saidKept}
+use Rattle.ordering.specs.inner.Frame as seen
+use Rattle.ordering.specs.inner.Station as abstract
+use Rattle.ring.specs.History.{saidKept}
 use Rattle.ring.proofs.View.{messageOf, messageIn, storeOf, stationSeen}
 use Rattle.ring.proofs.Law.{Rewrites}
 use Rattle.ring.proofs.StoreLaws.{store-given, store-stored, store-raised, level-same}

@@ -12,7 +12,7 @@ use Rattle.station.specs.Answer.{outcomeOf}
 use Rattle.station.specs.Reply.{Reply, followedBy, mostFrames}
 use Rattle.station.specs.Within.{framesIn}
 use Rattle.station.specs.declared.answer.Outcome.{Outcome}
-use Rattle.ring.specs.Stations.{recordAt, withRecord, recordsAfter, arriveAt, isMessage, Heard, hears, hearsMessage, heardSoFar, Reached, hearsAll, heardAt}
+use Rattle.ring.specs.Stations.{recordAt, withRecord, recordsAfter, arrivedAt, isMessage, Heard, hears, hearsMessage, heardSoFar, Reached, hearsAll, heardAt}
 use Rattle.ring.proofs.PlaceLaws.{with-same, at-with, with-with}
 use Rattle.ring.proofs.CutLaws.{cut-at, cut-none}
 use Rattle.ring.proofs.ArriveLaws.{counted}
@@ -55,11 +55,11 @@ module _ (p : ℕ) (records frame deliveries : List ℕ) (at : ℕ) (inside : at
 
   module _ (e : isMessage (readOf frame .answer) ≡ true)
       (o : Outcome) (records′ part′ : List ℕ)
-      (said : o ≡ outcomeOf (arriveAt p records frame mostFrames (length part) .answer))
-      (left-there : records′ ≡ recordsAfter p (arriveAt p records frame mostFrames (length part)) records)
-      (handed-there : part′ ≡ followedBy (arriveAt p records frame mostFrames (length part) .deliveries) part) where
+      (said : o ≡ outcomeOf (arrivedAt p records frame mostFrames (length part) .answer))
+      (left-there : records′ ≡ recordsAfter p (arrivedAt p records frame mostFrames (length part)) records)
+      (handed-there : part′ ≡ followedBy (arrivedAt p records frame mostFrames (length part) .deliveries) part) where
     reply : Reply
-    reply = arriveAt p records frame mostFrames (length part)
+    reply = arrivedAt p records frame mostFrames (length part)
 
     -- what is handed out has room
     pub handed-fits : length part′ ≡ length part → o .deliveries + at ≤ length deliveries
@@ -73,7 +73,7 @@ module _ (p : ℕ) (records frame deliveries : List ℕ) (at : ℕ) (inside : at
     reached =
         let c = counted (recordAt p records) frame mostFrames (length part) in
         let n : length (take at deliveries) ≡ at = length-take-le at deliveries inside in
-        let x = arriveAt p records frame mostFrames (length part) .deliveries in
+        let x = arrivedAt p records frame mostFrames (length part) .deliveries in
         let none : drop (length deliveries - at) (drop at deliveries) ≡ [] = drop-of-length-le (drop at deliveries) {i = length deliveries - at} (simp length-drop (omega arith)) in
         let there : part′ ≡ x ++ drop (length x) (drop at deliveries) = handed-there ∙ ap (λ (l : List ℕ). x ++ drop (length x) l) part-is in
         record {

@@ -14,7 +14,7 @@ pub mod VisitToken
 pub mod VisitWritten
 pub mod VisitLaw
 pub mod CallLaw
-pub mod LogSeen
+pub mod HistorySeen
 pub mod Going
 pub mod Matches
 pub mod Start

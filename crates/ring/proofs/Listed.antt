@@ -5,44 +5,44 @@ use mathlib.Core.List.{List, [], _∷_, map}
 use mathlib.Core.Option.{Option, none, some}
 use native.Mathlib.Omega.{arith}
 use Rattle.frames.specs.declared.header.Header.{Header}
-use Rattle.ordering.specs.Frame as seen
-use Rattle.ordering.specs.Log as log
-use Rattle.ordering.specs.Run as ordered
+use Rattle.ordering.specs.inner.Frame as seen
+use Rattle.ordering.specs.inner.History as cable
+use Rattle.ordering.specs.inner.Run as ordered
 use Rattle.ordering.proofs.Listed.{ListedFrom, listed as listed-seen}
 use Rattle.ring.specs.Calls.{Call}
-use Rattle.ring.specs.Log.{Entry, Written, reading}
+use Rattle.ring.specs.History.{Event, Written, reading}
 use Rattle.ring.specs.Run.{records, firstFrame, ringOf, start, run}
 use Rattle.ring.specs.Demand.{Account, accountOf}
 use Rattle.ring.specs.Listed.{ReadingsFrom, ListedInOrder, Listed}
-use Rattle.ring.proofs.View.{messageIn, entrySeen}
+use Rattle.ring.proofs.View.{messageIn, eventSeen}
 use Rattle.ring.proofs.CallLaw.{sight}
 use Rattle.ring.proofs.Lists.{texts, none≢some, some-inj, message-inj}
-use Rattle.ring.proofs.LogSeen.{message-seen, reading-numbered, writtenSeen, firstSeen, reading-seen, handed-seen}
+use Rattle.ring.proofs.HistorySeen.{message-seen, reading-numbered, writtenSeen, firstSeen, reading-seen, handed-seen}
 use Rattle.ring.proofs.Start.{RingFacts, ring-facts, ids-distinct, some-member}
 use Rattle.ring.proofs.Split.{possible-after}
 use Rattle.ring.proofs.Theorem.{text-in, match-start, follow-on}
 use Rattle.ring.proofs.Demand.{FromFounded, in-order}
 
 -- a reading as ordering sees it is the reading
-reading-here : (ring : Header) (entries : List Entry) (n : ℕ) (x : seen.Message) (v : log.Written)
-    → log.reading (map (entrySeen ring) entries) n ≡ some v
+reading-here : (ring : Header) (events : List Event) (n : ℕ) (x : seen.Message) (v : cable.Written)
+    → cable.reading (map (eventSeen ring) events) n ≡ some v
     → v .frame ≡ seen.message x
-    → (w : Written) × (reading ring entries n ≡ some w) × (w .frame ≡ x .text)
-reading-here ring entries n x v is f = by-reading (reading ring entries n) refl (sym (reading-seen ring entries n) ∙ is)
+    → (w : Written) × (reading ring events n ≡ some w) × (w .frame ≡ x .text)
+reading-here ring events n x v is f = by-reading (reading ring events n) refl (sym (reading-seen ring events n) ∙ is)
   where
-    by-reading : (o : Option Written) → reading ring entries n ≡ o → firstSeen ring o ≡ some v → (w : Written) × (reading ring entries n ≡ some w) × (w .frame ≡ x .text)
+    by-reading : (o : Option Written) → reading ring events n ≡ o → firstSeen ring o ≡ some v → (w : Written) × (reading ring events n ≡ some w) × (w .frame ≡ x .text)
     by-reading none e g = absurd (none≢some g)
     by-reading (some w) e g =
         let same : writtenSeen ring w ≡ v = some-inj g in
-        let m = message-seen ring n (w .frame) (reading-numbered ring entries n w e) .0 in
-        let x-is : messageIn (w .frame) ≡ x = message-inj (sym m ∙ ap (λ (u : log.Written). u .frame) same ∙ f) in
+        let m = message-seen ring n (w .frame) (reading-numbered ring events n w e) .0 in
+        let x-is : messageIn (w .frame) ≡ x = message-inj (sym m ∙ ap (λ (u : cable.Written). u .frame) same ∙ f) in
         (w, e, sym (text-in (w .frame)) ∙ ap (λ (y : seen.Message). y .text) x-is)
 
 module _ (members : List ℕ) (ring : ℕ) (a : Account) (calls : List Call) where
-  readings-here : (n : ℕ) (xs : List seen.Message) → ListedFrom (map (entrySeen (ringOf members ring)) (a .log calls)) n xs → ReadingsFrom members ring a calls n (texts xs)
+  readings-here : (n : ℕ) (xs : List seen.Message) → ListedFrom (map (eventSeen (ringOf members ring)) (a .history calls)) n xs → ReadingsFrom members ring a calls n (texts xs)
   readings-here n [] h = tt
   readings-here n (x ∷ xs) h =
-      (reading-here (ringOf members ring) (a .log calls) n x (h .0 .0) (h .0 .1) (h .0 .2), readings-here (suc n) xs (h .1))
+      (reading-here (ringOf members ring) (a .history calls) n x (h .0 .0) (h .0 .1) (h .0 .2), readings-here (suc n) xs (h .1))
 
 pub listed-from : (members : List ℕ) (ring : ℕ) → RingFacts members ring → FromFounded members ring (ListedInOrder members ring)
 unfolding run
@@ -52,12 +52,12 @@ listed-from members ring facts founded are calls can p p< =
     let f = follow-on sight members ring (facts .counted) (facts .follow) (facts .ranged) order founded are
     (start founded) (ordered.start members) calls begun (possible-after members ring founded [] calls can) in
     let this = ringOf members ring in
-    let entries = run (start founded) calls .log in
+    let events = run (start founded) calls .history in
     let there = listed-seen members (firstFrame members ring) (ids-distinct members (facts .follow))
     (omega (arith, some-member members ring (facts .counted) (facts .follow) (facts .ranged))) (f .calls) (f .possible) p p< in
-    subst (ReadingsFrom members ring (accountOf founded) calls 1) (handed-seen this p entries)
-    (readings-here members ring (accountOf founded) calls 1 (log.handedAt p (map (entrySeen this) entries))
-    (subst (λ l. ListedFrom l 1 (log.handedAt p l)) (sym (f .matches .log)) there))
+    subst (ReadingsFrom members ring (accountOf founded) calls 1) (handed-seen this p events)
+    (readings-here members ring (accountOf founded) calls 1 (cable.handedAt p (map (eventSeen this) events))
+    (subst (λ l. ListedFrom l 1 (cable.handedAt p l)) (sym (f .matches .history)) there))
 
 pub listed : Listed
 listed members ring foundable = listed-from members ring (ring-facts members ring foundable) (records members ring) (λ p h. refl)

@@ -14,17 +14,17 @@ use Rattle.record.specs.Ring.{current, ids}
 use Rattle.record.specs.Whole.{whole}
 use Rattle.record.specs.declared.Record.{Record}
 use Rattle.station.specs.EveryArrival.{Acceptable, visit}
-use Rattle.ordering.specs.Frame as seen
-use Rattle.ordering.specs.Station.{Station}
-use Rattle.ordering.specs.Log as log
-use Rattle.ordering.specs.Run as ordered
+use Rattle.ordering.specs.inner.Frame as seen
+use Rattle.ordering.specs.inner.Station.{Station}
+use Rattle.ordering.specs.inner.History as cable
+use Rattle.ordering.specs.inner.Run as ordered
 use Rattle.ordering.proofs.Newest.{Newest, newest-is}
 use Rattle.ring.specs.Calls.{Call}
 use Rattle.ring.specs.Run.{Ring, records, firstFrame, ringOf, start, run}
 use Rattle.ring.specs.Demand.{accountOf, CanAfter}
 use Rattle.ring.specs.Newest.{newest, newestAfter, NewestAccepted, NeverRefused}
 use Rattle.ring.proofs.Going.{Possible}
-use Rattle.ring.proofs.View.{tokenIn, storeOf, stationSeen, entrySeen}
+use Rattle.ring.proofs.View.{tokenIn, storeOf, stationSeen, eventSeen}
 use Rattle.ring.proofs.CallLaw.{sight}
 use Rattle.ring.proofs.Start.{ring-facts, ids-distinct, some-member, starts}
 use Rattle.ring.proofs.Matches.{Matches, Followed}
@@ -32,7 +32,7 @@ use Rattle.ring.proofs.Split.{possible-after}
 use Rattle.ring.proofs.Theorem.{match-start, follow-on}
 use Rattle.ring.proofs.Demand.{in-order}
 use Rattle.ring.proofs.Wholes.{founded-whole, run-whole}
-use Rattle.ring.proofs.Accepting.{Passed, passed, covers, entry-accepted}
+use Rattle.ring.proofs.Accepting.{Passed, passed, covers, event-accepted}
 use Rattle.ring.proofs.NewestSeen.{newest-seen, first-seen, first-passes, ring-there, members-there, newest-passes}
 
 module _ (members : List ℕ) (ring : ℕ)
@@ -43,7 +43,7 @@ module _ (members : List ℕ) (ring : ℕ)
   first = firstFrame members ring
 
   abbrev firstSeen : seen.Token
-  firstSeen = ordered.firstToken members first
+  firstSeen = ordered.foundingToken members first
 
   abbrev Match : Ring → ordered.Ring → Type 0
   Match s o = Matches sight (length members) (ringOf members ring) first firstSeen (starts members ring counted follow ranged) s o
@@ -73,11 +73,11 @@ module _ (members : List ℕ) (ring : ℕ)
     due : Newest members firstSeen nowSeen
     due = newest-is members first (ids-distinct members follow) (omega (arith, some-member members ring counted follow ranged)) (seen-run .calls) (seen-run .possible)
 
-    token-is : log.newest firstSeen (nowSeen .log) ≡ tokenIn frame
+    token-is : cable.newest firstSeen (nowSeen .history) ≡ tokenIn frame
     token-is =
-        ap (log.newest firstSeen) (sym (seen-run .matches .log))
-        ∙ ap (λ (t : seen.Token). log.newest t (map (entrySeen (ringOf members ring)) (now .log))) (sym (first-seen members ring counted follow ranged))
-        ∙ newest-seen (ringOf members ring) first (now .log)
+        ap (cable.newest firstSeen) (sym (seen-run .matches .history))
+        ∙ ap (λ (t : seen.Token). cable.newest t (map (eventSeen (ringOf members ring)) (now .history))) (sym (first-seen members ring counted follow ranged))
+        ∙ newest-seen (ringOf members ring) first (now .history)
 
     -- it passes 10 to 14
     token-passed : Passed ring members frame
@@ -121,7 +121,7 @@ module _ (members : List ℕ) (ring : ℕ)
         )
 
     -- 18
-    highest-is : log.newest firstSeen (nowSeen .log) .highest ≡ token .highest .0
+    highest-is : cable.newest firstSeen (nowSeen .history) .highest ≡ token .highest .0
     highest-is = ap (λ (t : seen.Token). t .highest) token-is
 
     level-low : current there .level .0 ≤ token .highest .0
@@ -153,7 +153,7 @@ module _ (members : List ℕ) (ring : ℕ)
           place = due .place;
           here = due .place-in;
           addressed = ap (λ (t : seen.Token). t .addressee) (sym token-is) ∙ due .addressee-is;
-          accepts = λ frames deliveries enough room low. entry-accepted there frame token (token-passed .read) (acceptable low) (due .place) frames deliveries enough room;
+          accepts = λ frames deliveries enough room low. event-accepted there frame token (token-passed .read) (acceptable low) (due .place) frames deliveries enough room;
         }
 
   pub never-refused-from : (calls : List Call) → CanAfter members ring (accountOf founded) [] calls → NewestAccepted members ring (accountOf founded) calls

@@ -13,38 +13,38 @@ use Rattle.frames.specs.declared.reader.Reading.{Reading}
 use Rattle.record.specs.Ring.{current, ids, thisRing, tokenMembers, tokenPasses}
 use Rattle.record.specs.Members.{representative, membersCounted, idsFollow, ringInRange}
 use Rattle.station.specs.Found.{firstToken}
-use Rattle.ordering.specs.Frame as seen
-use Rattle.ordering.specs.Station as abstract
-use Rattle.ordering.specs.Station.{Station}
-use Rattle.ordering.specs.Visit as visit
-use Rattle.ordering.specs.Log as log
-use Rattle.ordering.specs.Run as ordered
-use Rattle.ring.specs.Calls.{Call, placeOf}
-use Rattle.ring.specs.Log.{Entry, writtenBy, accepted}
+use Rattle.ordering.specs.inner.Frame as seen
+use Rattle.ordering.specs.inner.Station as abstract
+use Rattle.ordering.specs.inner.Station.{Station}
+use Rattle.ordering.specs.inner.Visit as visit
+use Rattle.ordering.specs.inner.History as cable
+use Rattle.ordering.specs.inner.Run as ordered
+use Rattle.ring.specs.Calls.{Call, stationOf}
+use Rattle.ring.specs.History.{Event, writtenBy, isAccepted}
 use Rattle.ring.specs.Newest.{lastOf, newest}
 use Rattle.ring.specs.Run.{Ring, firstFrame, ringOf, step, run}
 use Rattle.ring.proofs.Going.{Possible}
-use Rattle.ring.proofs.View.{seenToken, tokenIn, stationSeen, entrySeen}
+use Rattle.ring.proofs.View.{seenToken, tokenIn, stationSeen, eventSeen}
 use Rattle.ring.proofs.Law.{Law}
 use Rattle.ring.proofs.Start.{own-among, some-member, first-reads, starts}
-use Rattle.ring.proofs.Matches.{entryOf, Matches, step-law}
+use Rattle.ring.proofs.Matches.{eventOf, Matches, step-law}
 use Rattle.ring.proofs.Accepting.{last-passes}
 
 -- ---- as ordering sees it
 
-pub newest-seen : (ring : Header) (first : List ℕ) (entries : List Entry) → log.newest (tokenIn first) (map (entrySeen ring) entries) ≡ tokenIn (newest first entries)
-unfolding log.newest newest entrySeen
+pub newest-seen : (ring : Header) (first : List ℕ) (events : List Event) → cable.newest (tokenIn first) (map (eventSeen ring) events) ≡ tokenIn (newest first events)
+unfolding cable.newest newest eventSeen
 newest-seen ring first [] = refl
-newest-seen ring first (e ∷ earlier) = by-accepted (accepted e) (lastOf [] (writtenBy e)) (newest-seen ring first earlier)
+newest-seen ring first (e ∷ earlier) = by-accepted (isAccepted e) (lastOf [] (writtenBy e)) (newest-seen ring first earlier)
   where
-    by-accepted : (b : Bool) (last : List ℕ) → log.newest (tokenIn first) (map (entrySeen ring) earlier) ≡ tokenIn (newest first earlier)
-        → _≡_ {A = seen.Token} (elim (cond b (some (tokenIn last)) none) [ none ↦ log.newest (tokenIn first) (map (entrySeen ring) earlier) | some t ↦ t ]) (tokenIn (cond b last (newest first earlier)))
+    by-accepted : (b : Bool) (last : List ℕ) → cable.newest (tokenIn first) (map (eventSeen ring) earlier) ≡ tokenIn (newest first earlier)
+        → _≡_ {A = seen.Token} (elim (cond b (some (tokenIn last)) none) [ none ↦ cable.newest (tokenIn first) (map (eventSeen ring) earlier) | some t ↦ t ]) (tokenIn (cond b last (newest first earlier)))
     by-accepted true last h = refl
     by-accepted false last h = h
 
 module _ (members : List ℕ) (ring : ℕ) (counted : membersCounted members ≡ true) (follow : idsFollow members ≡ true) (ranged : ringInRange ring ≡ true) where
   -- founding's token
-  pub first-seen : tokenIn (firstFrame members ring) ≡ ordered.firstToken members (firstFrame members ring)
+  pub first-seen : tokenIn (firstFrame members ring) ≡ ordered.foundingToken members (firstFrame members ring)
   unfolding firstToken
   first-seen = ap (λ (x : Reading). seenToken (x .token) (firstFrame members ring)) (first-reads members ring counted follow ranged)
 
@@ -60,7 +60,7 @@ module _ (members : List ℕ) (ring : ℕ) (counted : membersCounted members ≡
 
 -- ---- members stay
 
-members-stay : (s : Station) (d : ordered.Call) → ordered.after s d .members ≡ s .members
+members-stay : (s : Station) (d : ordered.Call) → ordered.moved s d .members ≡ s .members
 unfolding abstract.heard visit.visited
 members-stay s (ordered.quiet p) = refl
 members-stay s (ordered.hearing p x) = refl
@@ -74,7 +74,7 @@ module _ (law : Law) (members : List ℕ) (ring : ℕ) (counted : membersCounted
   first = firstFrame members ring
 
   abbrev Match : Ring → ordered.Ring → Type 0
-  Match s o = Matches law (length members) (ringOf members ring) first (ordered.firstToken members first) (starts members ring counted follow ranged) s o
+  Match s o = Matches law (length members) (ringOf members ring) first (ordered.foundingToken members first) (starts members ring counted follow ranged) s o
 
   abbrev MembersAre : ordered.Ring → Type 0
   MembersAre o = (p : ℕ) → p < length members → o .at p .members ≡ members
@@ -88,33 +88,33 @@ module _ (law : Law) (members : List ℕ) (ring : ℕ) (counted : membersCounted
     unfolding stationSeen
     members-there = ap (λ (x : Station). x .members) (m .stations p here) ∙ k p here
 
-  step-members : (o : ordered.Ring) (d : ordered.Call) → MembersAre o → ordered.placeOf d < length members → MembersAre (ordered.step o d)
+  step-members : (o : ordered.Ring) (d : ordered.Call) → MembersAre o → ordered.stationOf d < length members → MembersAre (ordered.step o d)
   unfolding ordered.step ordered.update
-  step-members o d k here q h = by-place (eqb q (ordered.placeOf d))
+  step-members o d k here q h = by-place (eqb q (ordered.stationOf d))
     where
-      by-place : (b : Bool) → cond b (ordered.after (o .at (ordered.placeOf d)) d) (o .at q) .members ≡ members
-      by-place true = members-stay (o .at (ordered.placeOf d)) d ∙ k (ordered.placeOf d) here
+      by-place : (b : Bool) → cond b (ordered.moved (o .at (ordered.stationOf d)) d) (o .at q) .members ≡ members
+      by-place true = members-stay (o .at (ordered.stationOf d)) d ∙ k (ordered.stationOf d) here
       by-place false = k q h
 
   abbrev Passes : Ring → Type 0
-  Passes s = tokenPasses ring members (newest first (s .log)) ≡ true
+  Passes s = tokenPasses ring members (newest first (s .history)) ≡ true
 
-  step-passes : (s : Ring) (o : ordered.Ring) (c : Call) → Match s o → MembersAre o → placeOf c < length members → Passes s → Passes (step s c)
+  step-passes : (s : Ring) (o : ordered.Ring) (c : Call) → Match s o → MembersAre o → stationOf c < length members → Passes s → Passes (step s c)
   unfolding step newest
-  step-passes s o c m k here before = by-accepted (accepted (entryOf s c)) refl
+  step-passes s o c m k here before = by-accepted (isAccepted (eventOf s c)) refl
     where
-      by-accepted : (b : Bool) → accepted (entryOf s c) ≡ b → tokenPasses ring members (cond b (lastOf [] (writtenBy (entryOf s c))) (newest first (s .log))) ≡ true
+      by-accepted : (b : Bool) → isAccepted (eventOf s c) ≡ b → tokenPasses ring members (cond b (lastOf [] (writtenBy (eventOf s c))) (newest first (s .history))) ≡ true
       by-accepted true e =
-          subst (λ n. tokenPasses n members (lastOf [] (writtenBy (entryOf s c))) ≡ true) (ring-there s o m k (placeOf c) here)
-          (subst (λ ms. tokenPasses (current (s .at (placeOf c)) .ring .0) ms (lastOf [] (writtenBy (entryOf s c))) ≡ true) (members-there s o m k (placeOf c) here)
-          (last-passes (s .at (placeOf c)) c e))
+          subst (λ n. tokenPasses n members (lastOf [] (writtenBy (eventOf s c))) ≡ true) (ring-there s o m k (stationOf c) here)
+          (subst (λ ms. tokenPasses (current (s .at (stationOf c)) .ring .0) ms (lastOf [] (writtenBy (eventOf s c))) ≡ true) (members-there s o m k (stationOf c) here)
+          (last-passes (s .at (stationOf c)) c e))
       by-accepted false e = before
 
   pub newest-passes : (s : Ring) (o : ordered.Ring) (cs : List Call) → Match s o → MembersAre o → Possible (length members) first s cs → Passes s → Passes (run s cs)
   unfolding run
   newest-passes s o [] m k can before = before
   newest-passes s o (c ∷ cs) m k can before =
-      let t = step-law law (length members) (ringOf members ring) first (ordered.firstToken members first) (starts members ring counted follow ranged) s o c m (can .0) (can .1) in
+      let t = step-law law (length members) (ringOf members ring) first (ordered.foundingToken members first) (starts members ring counted follow ranged) s o c m (can .0) (can .1) in
       newest-passes (step s c) (ordered.step o (t .call)) cs (t .matches)
       (step-members o (t .call) k (subst (λ p. p < length members) (sym (t .place)) (can .0)))
       (can .2)

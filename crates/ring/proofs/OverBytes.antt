@@ -15,7 +15,7 @@ use Rattle.station.proofs.ReplyGood.{resent-either}
 use Rattle.totem.specs.Over.{idsIn, postOver, arriveOver, resendOver}
 use Rattle.totem.proofs.FoundOver.{over-room}
 use Rattle.totem.proofs.ThereLaws.{posted-there, arrived-there, founded-there}
-use Rattle.ring.specs.Calls.{Call, post, arrival, resending, placeOf, replyTo}
+use Rattle.ring.specs.Calls.{Call, post, arrival, resending, stationOf, replyTo}
 use Rattle.ring.specs.Run.{Ring, foundedAt, records, update, step, start, run}
 use Rattle.ring.specs.Demand.{Account, accountOf, CanAfter, WholeRun}
 use Rattle.ring.specs.OverBytes.{replyOver, bytesAfter, RingOver, updateOver, stepOver, runOver, startOver, accountOver, foundedOver, bytesFounded, Founding, overBytes, CanOver, Demand₃OverBytes, ListedOverBytes, NeverRefusedOverBytes, AlwaysWholeOverBytes, FirstOverBytes}
@@ -44,7 +44,7 @@ after-lent s (resending place frames) = resent-either (λ reply. lent s ≡ repl
 -- ---- so a ring over bytes runs as the ring of the records in them
 
 abbrev lentRing : RingOver → Ring
-lentRing r = record { at = λ p. lent (r .at p); log = r .log }
+lentRing r = record { at = λ p. lent (r .at p); history = r .history }
 
 update-lent : (p : ℕ) (s : List ℕ) (at : ℕ → List ℕ) (q : ℕ) → lent (updateOver p s at q) ≡ update p (lent s) (λ i. lent (at i)) q
 unfolding updateOver update
@@ -57,11 +57,11 @@ update-lent p s at q = go (eqb q p)
 step-lent : (r : RingOver) (c : Call) → lentRing (stepOver r c) ≡ step (lentRing r) c
 unfolding stepOver step
 step-lent r c =
-    let s = r .at (placeOf c) in
-    let at : (λ q. lent (updateOver (placeOf c) (bytesAfter s c) (r .at) q)) ≡ update (placeOf c) (replyTo (lent s) c .rec) (λ q. lent (r .at q)) =
-    fun-ext (λ q. update-lent (placeOf c) (bytesAfter s c) (r .at) q) ∙ ap (λ x. update (placeOf c) x (λ q. lent (r .at q))) (after-lent s c) in
-    ap (λ (f : ℕ → Record). record { at = f; log = record { call = c; reply = replyOver s c } ∷ r .log }) at
-    ∙ ap (λ (x : Reply). record { at = update (placeOf c) (replyTo (lent s) c .rec) (λ q. lent (r .at q)); log = record { call = c; reply = x } ∷ r .log }) (reply-lent s c)
+    let s = r .at (stationOf c) in
+    let at : (λ q. lent (updateOver (stationOf c) (bytesAfter s c) (r .at) q)) ≡ update (stationOf c) (replyTo (lent s) c .rec) (λ q. lent (r .at q)) =
+    fun-ext (λ q. update-lent (stationOf c) (bytesAfter s c) (r .at) q) ∙ ap (λ x. update (stationOf c) x (λ q. lent (r .at q))) (after-lent s c) in
+    ap (λ (f : ℕ → Record). record { at = f; history = record { call = c; reply = replyOver s c } ∷ r .history }) at
+    ∙ ap (λ (x : Reply). record { at = update (stationOf c) (replyTo (lent s) c .rec) (λ q. lent (r .at q)); history = record { call = c; reply = x } ∷ r .history }) (reply-lent s c)
 
 run-lent : (r : RingOver) (cs : List Call) → lentRing (runOver r cs) ≡ run (lentRing r) cs
 unfolding runOver run
@@ -71,10 +71,10 @@ run-lent r (c ∷ cs) = run-lent (stepOver r c) cs ∙ ap (λ s. run s cs) (step
 account-lent : (founded : ℕ → List ℕ) → accountOver founded ≡ accountOf (λ p. lent (founded p))
 account-lent founded =
     let runs : (λ calls. lentRing (runOver (startOver founded) calls)) ≡ run (start (λ p. lent (founded p))) = fun-ext (λ calls. run-lent (startOver founded) calls) in
-    let replies : accountOver founded .reply ≡ (λ before c. replyTo (lent (runOver (startOver founded) before .at (placeOf c))) c) =
-    fun-ext (λ before. fun-ext (λ c. reply-lent (runOver (startOver founded) before .at (placeOf c)) c)) in
-    ap (λ (f : List Call → Call → Reply). record { log = accountOver founded .log; reply = f }) replies
-    ∙ ap (λ (f : List Call → Ring). record { log = λ calls. f calls .log; reply = λ before c. replyTo (f before .at (placeOf c)) c }) runs
+    let replies : accountOver founded .reply ≡ (λ before c. replyTo (lent (runOver (startOver founded) before .at (stationOf c))) c) =
+    fun-ext (λ before. fun-ext (λ c. reply-lent (runOver (startOver founded) before .at (stationOf c)) c)) in
+    ap (λ (f : List Call → Call → Reply). record { history = accountOver founded .history; reply = f }) replies
+    ∙ ap (λ (f : List Call → Ring). record { history = λ calls. f calls .history; reply = λ before c. replyTo (f before .at (stationOf c)) c }) runs
 
 -- ---- founding leaves founding's records in the bytes
 

@@ -12,15 +12,15 @@ use Rattle.station.specs.Post.{withPost, posted}
 use Rattle.station.specs.declared.refusal.Refusal.{Refusal}
 use Rattle.station.specs.declared.answer.Answer.the-variants.{Posted}
 use Rattle.station.proofs.ReplyGood.{posted-either}
-use Rattle.ordering.specs.Run as ordered
-use Rattle.ring.specs.Calls.{Call, post, placeOf, replyTo}
-use Rattle.ring.specs.Log.{handedOver, saidKept}
+use Rattle.ordering.specs.inner.Run as ordered
+use Rattle.ring.specs.Calls.{Call, post, stationOf, replyTo}
+use Rattle.ring.specs.History.{handedOver, saidKept}
 use Rattle.ring.proofs.View.{stationSeen, keptBy}
 use Rattle.ring.proofs.Law.{Sight, as-quiet}
-use Rattle.ring.proofs.SeenLaws.{SeenReply, seen-as, no-frames, entry-unwritten, entry-same}
+use Rattle.ring.proofs.SeenLaws.{SeenReply, seen-as, no-frames, event-unwritten, event-same}
 
 abbrev pub Quiet : Record → Call → Reply → Type 0
-Quiet r c reply = SeenReply r c reply (ordered.quiet (placeOf c))
+Quiet r c reply = SeenReply r c reply (ordered.quiet (stationOf c))
 
 kept-none : (handed : Option (List ℕ)) → keptBy false handed ≡ none
 kept-none none = refl
@@ -38,9 +38,9 @@ quiet-reply r c reply said frames deliveries station ring =
     record {
       at = refl;
       station = station;
-      entry =
-          entry-unwritten (ringHeader (current r)) c reply frames
-          ∙ entry-same (placeOf c) _ _ [] _ _ (rw said (kept-none (handedOver c))) (rw (deliveries, no-frames));
+      event =
+          event-unwritten (ringHeader (current r)) c reply frames
+          ∙ event-same (stationOf c) _ _ [] _ _ (rw said (kept-none (handedOver c))) (rw (deliveries, no-frames));
       ring = ring;
       written = rw (frames, no-frames) tt;
     }
@@ -49,7 +49,7 @@ pub quiet-refused : (r : Record) (c : Call) (why : Refusal) → Quiet r c (refus
 quiet-refused r c why = quiet-reply r c (refused r why) refl refl refl refl refl
 
 pub quiet-sight : (r : Record) (c : Call) (reply : Reply) → replyTo r c ≡ reply → Quiet r c reply → Sight r c
-quiet-sight r c reply e q = as-quiet (seen-as r c reply (ordered.quiet (placeOf c)) e q)
+quiet-sight r c reply e q = as-quiet (seen-as r c reply (ordered.quiet (stationOf c)) e q)
 
 -- ---- every refusal
 

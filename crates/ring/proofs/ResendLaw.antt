@@ -20,10 +20,10 @@ use Rattle.station.specs.Deliver.{ringHeader}
 use Rattle.station.specs.Within.{framesIn}
 use Rattle.station.specs.declared.refusal.Refusal.the-variants.{NoRoom, NotWhole, NothingToResend}
 use Rattle.station.specs.declared.answer.Answer.the-variants.{Resent}
-use Rattle.ordering.specs.Run as ordered
-use Rattle.ring.specs.Calls.{Call, resending, placeOf}
-use Rattle.ring.specs.Log.{accepted}
-use Rattle.ring.proofs.View.{stationSeen, frameSeen, entrySeen, tokenIn, leaveOf}
+use Rattle.ordering.specs.inner.Run as ordered
+use Rattle.ring.specs.Calls.{Call, resending, stationOf}
+use Rattle.ring.specs.History.{isAccepted}
+use Rattle.ring.proofs.View.{stationSeen, frameSeen, eventSeen, tokenIn, resendableOf}
 use Rattle.ring.proofs.Law.{Sight, as-quiet, as-resending}
 use Rattle.ring.proofs.SeenLaws.{SeenReply, seen-as, asked, no-frames}
 use Rattle.ring.proofs.QuietLaw.{Quiet, quiet-refused}
@@ -35,43 +35,43 @@ passes-token : (ring : ℕ) (members frame : List ℕ) → tokenPasses ring memb
 unfolding tokenPasses
 passes-token ring members frame e = part e (λ (f : isToken (readOf frame .answer) ≡ false). rw f)
 
-pub leave-reads : (r : Record) → whole r ≡ true → mayResend (r .turn) ≡ true → isToken (readOf (remembered (r .turn)) .answer) ≡ true
+pub resendable-reads : (r : Record) → whole r ≡ true → mayResend (r .turn) ≡ true → isToken (readOf (remembered (r .turn)) .answer) ≡ true
 unfolding whole resendPasses
-leave-reads r w leave =
+resendable-reads r w resendable =
     let good : (not (mayResend (r .turn)) || tokenPasses (current r .ring .0) (ids (current r)) (remembered (r .turn))) ≡ true =
     part w (λ (f : resendPasses (current r .ring .0) (ids (current r)) (r .turn) ≡ false). simp (f, and-false)) in
-    passes-token (current r .ring .0) (ids (current r)) (remembered (r .turn)) (rw leave at good)
+    passes-token (current r .ring .0) (ids (current r)) (remembered (r .turn)) (rw resendable at good)
 
-pub leave-is : (t : Turn) → mayResend t ≡ true → leaveOf t ≡ some (tokenIn (remembered t))
-unfolding leaveOf
-leave-is t e = rw e
+pub resendable-is : (t : Turn) → mayResend t ≡ true → resendableOf t ≡ some (tokenIn (remembered t))
+unfolding resendableOf
+resendable-is t e = rw e
 
 -- ---- taken
 
 abbrev Taken : Record → Reply
 Taken r = record { answer = Resent (r .turn .size); rec = r; frames = remembered (r .turn); deliveries = [] }
 
-module _ (r : Record) (place : ℕ) (frames : List ℕ) (w : whole r ≡ true) (leave : mayResend (r .turn) ≡ true) where
+module _ (r : Record) (place : ℕ) (frames : List ℕ) (w : whole r ≡ true) (resendable : mayResend (r .turn) ≡ true) where
   reads : isToken (readOf (remembered (r .turn)) .answer) ≡ true
-  reads = leave-reads r w leave
+  reads = resendable-reads r w resendable
 
   within : framesIn (remembered (r .turn)) ≡ remembered (r .turn) ∷ []
   within = token-alone (remembered (r .turn)) reads
 
-  writes : map (frameSeen (ringHeader (current r))) (framesIn (remembered (r .turn))) ≡ ordered.leaveWrites (stationSeen r .leave)
+  writes : map (frameSeen (ringHeader (current r))) (framesIn (remembered (r .turn))) ≡ ordered.resendWrites (stationSeen r .resendable)
   unfolding stationSeen
-  writes = rw (within, leave-is (r .turn) leave, frame-token (ringHeader (current r)) (remembered (r .turn)) reads)
+  writes = rw (within, resendable-is (r .turn) resendable, frame-token (ringHeader (current r)) (remembered (r .turn)) reads)
 
-  taken-entry : entrySeen (ringHeader (current r)) (record { call = resending place frames; reply = Taken r }) ≡ ordered.entry (stationSeen r) (ordered.resending place)
-  unfolding entrySeen accepted
-  taken-entry = rw (writes, no-frames)
+  taken-event : eventSeen (ringHeader (current r)) (record { call = resending place frames; reply = Taken r }) ≡ ordered.event (stationSeen r) (ordered.resending place)
+  unfolding eventSeen isAccepted
+  taken-event = rw (writes, no-frames)
 
   seen-taken : SeenReply r (resending place frames) (Taken r) (ordered.resending place)
   seen-taken =
       record {
         at = refl;
         station = refl;
-        entry = taken-entry;
+        event = taken-event;
         ring = refl;
         written = rw within (token-rewrites (remembered (r .turn)) reads, tt);
       }
@@ -79,7 +79,7 @@ module _ (r : Record) (place : ℕ) (frames : List ℕ) (w : whole r ≡ true) (
 -- ---- either way
 
 abbrev Resends : Record → Call → Reply → Type 0
-Resends r c reply = Quiet r c reply ⊎ SeenReply r c reply (ordered.resending (placeOf c))
+Resends r c reply = Quiet r c reply ⊎ SeenReply r c reply (ordered.resending (stationOf c))
 
 resends : (r : Record) (place : ℕ) (frames : List ℕ) → Resends r (resending place frames) (resent r (length frames))
 unfolding resent
@@ -87,8 +87,8 @@ resends r place frames =
     let c = resending place frames in
     asked (Resends r c) r (leb mostFrames (length frames)) NoRoom _ (inl (quiet-refused r c NoRoom)) (λ room.
     asked (Resends r c) r (whole r) NotWhole _ (inl (quiet-refused r c NotWhole)) (λ w.
-    asked (Resends r c) r (mayResend (r .turn)) NothingToResend _ (inl (quiet-refused r c NothingToResend)) (λ leave.
-    inr (seen-taken r place frames w leave))))
+    asked (Resends r c) r (mayResend (r .turn)) NothingToResend _ (inl (quiet-refused r c NothingToResend)) (λ resendable.
+    inr (seen-taken r place frames w resendable))))
 
 pub sight-resend : (r : Record) (place : ℕ) (frames : List ℕ) → Sight r (resending place frames)
 sight-resend r place frames = go (resends r place frames)

@@ -8,34 +8,34 @@ use Rattle.frames.specs.Trials.{same}
 use Rattle.ordering.specs.Lists.{firstOf}
 use Rattle.station.proofs.AcceptanceTrials.{opened}
 use Rattle.ring.specs.Calls.{Call}
-use Rattle.ring.specs.Log.{writtenIn, isNumbered, reading, deliveryList, isTokenNumbered, anyOf, accepted}
+use Rattle.ring.specs.History.{writtenIn, isNumbered, reading, deliveryList, isTokenNumbered, anyOf, isAccepted}
 use Rattle.ring.specs.Run.{records, firstFrame, start, update, step, run}
 use Rattle.ring.specs.Demand.{overStructs}
 use Rattle.ring.specs.Newest.{newest}
 use Rattle.ring.specs.Stations.{placeFrom}
-use Rattle.ring.specs.Script.{members, ring, broadcasts, toOthers, handsOn, tick, ticks, scriptOf, script, entries, linesOf, printed, sameLines, readings, listsAre, acceptedAt, ScriptRuns}
+use Rattle.ring.specs.Script.{scriptMembers, scriptRing, allButToken, toOthers, handsOn, tick, ticks, scriptOf, script, scriptEvents, linesOf, printed, sameLines, readings, listsAre, acceptedAt, ScriptRuns}
 use Rattle.ring.proofs.Checked.{anyFrame, possible, can-be-made}
 
 -- opens all that a run computes with
 ran : List Call → ℕ
-unfolding opened writtenIn isTokenNumbered anyOf accepted update step run newest placeFrom broadcasts toOthers handsOn tick ticks scriptOf script entries
+unfolding opened writtenIn isTokenNumbered anyOf isAccepted update step run newest placeFrom allButToken toOthers handsOn tick ticks scriptOf script scriptEvents
 ran calls = length calls
 
-can-be : possible (length members) (firstFrame members ring) (start (records members ring)) script ≡ true
+can-be : possible (length scriptMembers) (firstFrame scriptMembers scriptRing) (start (records scriptMembers scriptRing)) script ≡ true
 unfolding ran anyFrame possible
 can-be = refl
 
-prints : sameLines (linesOf entries) printed ≡ true
+prints : sameLines (linesOf scriptEvents) printed ≡ true
 unfolding ran linesOf sameLines
 prints = refl
 
-lists : listsAre (readings entries) entries ≡ true
+lists : listsAre (readings scriptEvents) scriptEvents ≡ true
 unfolding ran firstOf isNumbered reading deliveryList readings listsAre
 lists = refl
 
-rounds : same (acceptedAt (overStructs members ring .log (scriptOf 7))) (0 ∷ 1 ∷ 0 ∷ 1 ∷ 0 ∷ 1 ∷ 0 ∷ []) ≡ true
+rounds : same (acceptedAt (overStructs scriptMembers scriptRing .history (scriptOf 7))) (0 ∷ 1 ∷ 0 ∷ 1 ∷ 0 ∷ 1 ∷ 0 ∷ []) ≡ true
 unfolding ran acceptedAt
 rounds = refl
 
 pub script-runs : ScriptRuns
-script-runs = record { can = can-be-made members ring (records members ring) script can-be; prints = prints; lists = lists; rounds = rounds }
+script-runs = record { can = can-be-made scriptMembers scriptRing (records scriptMembers scriptRing) script can-be; prints = prints; lists = lists; rounds = rounds }

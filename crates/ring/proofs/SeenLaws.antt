@@ -13,20 +13,20 @@ use Rattle.station.specs.Deliver.{ringHeader}
 use Rattle.station.specs.Within.{framesUpTo, framesIn}
 use Rattle.station.specs.EveryArrival.{Each}
 pub use Rattle.station.proofs.ReplyLaws.{asked}
-use Rattle.ordering.specs.Frame as seen
-use Rattle.ordering.specs.Station.{Station, Store}
-use Rattle.ordering.specs.Log as cable
-use Rattle.ordering.specs.Run as ordered
-use Rattle.ring.specs.Calls.{Call, placeOf, replyTo}
-use Rattle.ring.specs.Log.{Entry, anyOf, acceptsToken, accepted, handedOver, saidKept}
-use Rattle.ring.proofs.View.{stationSeen, entrySeen, messageIn, keptBy}
+use Rattle.ordering.specs.inner.Frame as seen
+use Rattle.ordering.specs.inner.Station.{Station, Store}
+use Rattle.ordering.specs.inner.History as cable
+use Rattle.ordering.specs.inner.Run as ordered
+use Rattle.ring.specs.Calls.{Call, stationOf, replyTo}
+use Rattle.ring.specs.History.{Event, anyOf, acceptsToken, isAccepted, handedOver, saidKept}
+use Rattle.ring.proofs.View.{stationSeen, eventSeen, messageIn, keptBy}
 use Rattle.ring.proofs.Law.{Rewrites, SeenAs}
 
 -- `SeenAs`, of a reply
 pub record SeenReply (r : Record) (c : Call) (reply : Reply) (d : ordered.Call) : Type 0 where
-  pub at : ordered.placeOf d ≡ placeOf c
-  pub station : stationSeen (reply .rec) ≡ ordered.after (stationSeen r) d
-  pub entry : entrySeen (ringHeader (current r)) (record { call = c; reply = reply }) ≡ ordered.entry (stationSeen r) d
+  pub at : ordered.stationOf d ≡ stationOf c
+  pub station : stationSeen (reply .rec) ≡ ordered.moved (stationSeen r) d
+  pub event : eventSeen (ringHeader (current r)) (record { call = c; reply = reply }) ≡ ordered.event (stationSeen r) d
   pub ring : ringHeader (current (reply .rec)) ≡ ringHeader (current r)
   pub written : Each Rewrites (framesIn (reply .frames))
 
@@ -35,7 +35,7 @@ seen-as r c reply d e s =
     record {
       at = s .at;
       station = ap (λ (k : Reply). stationSeen (k .rec)) e ∙ s .station;
-      entry = ap (λ (k : Reply). entrySeen (ringHeader (current r)) (record { call = c; reply = k })) e ∙ s .entry;
+      event = ap (λ (k : Reply). eventSeen (ringHeader (current r)) (record { call = c; reply = k })) e ∙ s .event;
       ring = ap (λ (k : Reply). ringHeader (current (k .rec))) e ∙ s .ring;
       written = subst (λ (k : Reply). Each Rewrites (framesIn (k .frames))) (sym e) (s .written);
     }
@@ -52,31 +52,31 @@ none-accepted none = refl
 none-accepted (some frame) = and-false (isToken (readOf frame .answer))
 
 -- what a call that writes nothing did
-abbrev pub unwritten : Call → Reply → cable.Entry
+abbrev pub unwritten : Call → Reply → cable.Event
 unwritten c reply =
     record {
-      place = placeOf c;
+      place = stationOf c;
       kept = keptBy (saidKept (reply .answer)) (handedOver c);
       forwarded = none;
       written = [];
       handed = map messageIn (framesIn (reply .deliveries));
     }
 
-pub entry-unwritten : (ring : Header) (c : Call) (reply : Reply) → reply .frames ≡ [] → entrySeen ring (record { call = c; reply = reply }) ≡ unwritten c reply
-unfolding entrySeen accepted
-entry-unwritten ring c reply e = rw (e, no-frames, none-accepted (handedOver c))
+pub event-unwritten : (ring : Header) (c : Call) (reply : Reply) → reply .frames ≡ [] → eventSeen ring (record { call = c; reply = reply }) ≡ unwritten c reply
+unfolding eventSeen isAccepted
+event-unwritten ring c reply e = rw (e, no-frames, none-accepted (handedOver c))
 
--- two entries with the same fields
-pub entry-same : (place : ℕ) (kept kept′ : Option seen.Message) (written : List seen.Frame) (handed handed′ : List seen.Message)
+-- two events with the same fields
+pub event-same : (place : ℕ) (kept kept′ : Option seen.Message) (written : List seen.Frame) (handed handed′ : List seen.Message)
     → kept ≡ kept′
     → handed ≡ handed′
-    → _≡_ {A = cable.Entry}
+    → _≡_ {A = cable.Event}
     (record { place = place; kept = kept; forwarded = none; written = written; handed = handed })
     (record { place = place; kept = kept′; forwarded = none; written = written; handed = handed′ })
-entry-same place kept kept′ written handed handed′ e f = rw (e, f)
+event-same place kept kept′ written handed handed′ e f = rw (e, f)
 
 -- two stations with the same fields
-pub station-same : (members members′ : List ℕ) (own own′ level level′ safe safe′ delivered delivered′ aru aru′ last last′ : ℕ) (leave leave′ : Option seen.Token) (held held′ : Store)
+pub station-same : (members members′ : List ℕ) (own own′ level level′ safe safe′ delivered delivered′ aru aru′ last last′ : ℕ) (resendable resendable′ : Option seen.Token) (held held′ : Store)
     → members ≡ members′
     → own ≡ own′
     → level ≡ level′
@@ -84,10 +84,10 @@ pub station-same : (members members′ : List ℕ) (own own′ level level′ sa
     → delivered ≡ delivered′
     → aru ≡ aru′
     → last ≡ last′
-    → leave ≡ leave′
+    → resendable ≡ resendable′
     → held ≡ held′
     → _≡_ {A = Station}
-    (record { members = members; own = own; level = level; safe = safe; delivered = delivered; aru = aru; last = last; leave = leave; held = held })
-    (record { members = members′; own = own′; level = level′; safe = safe′; delivered = delivered′; aru = aru′; last = last′; leave = leave′; held = held′ })
-station-same members members′ own own′ level level′ safe safe′ delivered delivered′ aru aru′ last last′ leave leave′ held held′ e₁ e₂ e₃ e₄ e₅ e₆ e₇ e₈ e₉ =
+    (record { members = members; own = own; level = level; safe = safe; delivered = delivered; aru = aru; last = last; resendable = resendable; held = held })
+    (record { members = members′; own = own′; level = level′; safe = safe′; delivered = delivered′; aru = aru′; last = last′; resendable = resendable′; held = held′ })
+station-same members members′ own own′ level level′ safe safe′ delivered delivered′ aru aru′ last last′ resendable resendable′ held held′ e₁ e₂ e₃ e₄ e₅ e₆ e₇ e₈ e₉ =
     rw (e₁, e₂, e₃, e₄, e₅, e₆, e₇, e₈, e₉)

@@ -7,11 +7,11 @@ use mathlib.Core.Option.{some}
 use lib.ListN.{length}
 use Rattle.frames.specs.declared.header.Header.{Header}
 use Rattle.record.specs.declared.Record.{Record}
-use Rattle.ordering.specs.Frame as seen
+use Rattle.ordering.specs.inner.Frame as seen
 use Rattle.ordering.proofs.Base.{first-stays}
-use Rattle.ordering.specs.Run as ordered
-use Rattle.ring.specs.Calls.{Call, placeOf, replyTo}
-use Rattle.ring.specs.Log.{Written, writtenAt, writtenBy, writtenIn, isNumbered, reading}
+use Rattle.ordering.specs.inner.Run as ordered
+use Rattle.ring.specs.Calls.{Call, stationOf, replyTo}
+use Rattle.ring.specs.History.{Written, writtenAt, writtenBy, writtenIn, isNumbered, reading}
 use Rattle.ring.specs.Run.{Ring, firstFrame, start, step, run}
 use Rattle.ring.specs.Demand.{accountOf, CanAfter, AcceptedIn}
 use Rattle.ring.proofs.Going.{Possible, AcceptedIn as Accepts}
@@ -49,12 +49,12 @@ possible-join size first o (c ∷ xs) ys h k = (h .0, possible-join size first (
 
 -- ---- a reading stays the reading
 
-reading-next : (ring : Header) (s : Ring) (c : Call) (n : ℕ) (w : Written) → reading ring (s .log) n ≡ some w → reading ring (step s c .log) n ≡ some w
+reading-next : (ring : Header) (s : Ring) (c : Call) (n : ℕ) (w : Written) → reading ring (s .history) n ≡ some w → reading ring (step s c .history) n ≡ some w
 unfolding reading step writtenIn
 reading-next ring s c n w e =
-    first-stays (λ v. isNumbered ring n (v .frame)) (writtenIn (s .log)) (map (writtenAt (placeOf c)) (writtenBy (record { call = c; reply = replyTo (s .at (placeOf c)) c }))) w e
+    first-stays (λ v. isNumbered ring n (v .frame)) (writtenIn (s .history)) (map (writtenAt (stationOf c)) (writtenBy (record { call = c; reply = replyTo (s .at (stationOf c)) c }))) w e
 
-pub reading-stays : (ring : Header) (s : Ring) (cs : List Call) (n : ℕ) (w : Written) → reading ring (s .log) n ≡ some w → reading ring (run s cs .log) n ≡ some w
+pub reading-stays : (ring : Header) (s : Ring) (cs : List Call) (n : ℕ) (w : Written) → reading ring (s .history) n ≡ some w → reading ring (run s cs .history) n ≡ some w
 unfolding run
 reading-stays ring s [] n w e = e
 reading-stays ring s (c ∷ cs) n w e = reading-stays ring (step s c) cs n w (reading-next ring s c n w e)

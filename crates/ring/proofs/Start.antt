@@ -26,12 +26,12 @@ use Rattle.station.specs.Deliver.{ringHeader}
 use Rattle.station.specs.Found.{firstToken, founded}
 use Rattle.station.specs.declared.answer.Answer.the-variants.{Founded}
 use Rattle.station.proofs.FoundLaws.{foundable-when, first-follows}
-use Rattle.ordering.specs.Frame as seen
+use Rattle.ordering.specs.inner.Frame as seen
 use Rattle.ordering.specs.Lists.{Distinct}
-use Rattle.ordering.specs.Station.{Station, Store}
-use Rattle.ordering.specs.Run as ordered
+use Rattle.ordering.specs.inner.Station.{Station, Store}
+use Rattle.ordering.specs.inner.Run as ordered
 use Rattle.ring.specs.Run.{ringFoundable, OneFirst, records, firstFrame, ringOf, foundedAt}
-use Rattle.ring.proofs.View.{storeOf, leaveOf, stationSeen, frameSeen}
+use Rattle.ring.proofs.View.{storeOf, resendableOf, stationSeen, frameSeen}
 use Rattle.ring.proofs.Law.{Rewrites}
 pub use Rattle.ring.proofs.FrameLaws.{token-seen}
 
@@ -100,7 +100,7 @@ module _ (members : List ℕ) (ring : ℕ) (counted : membersCounted members ≡
       ∙ token-restored (firstToken members ring) (first-follows members (getD members 0 0) ring (foundable-when members (getD members 0 0) ring counted follow (own-among members 0 (omega (arith, some-member))) ranged))
 
   -- it is seen as the first token
-  pub starts : frameSeen (ringOf members ring) (firstFrame members ring) ≡ seen.token (ordered.firstToken members (firstFrame members ring))
+  pub starts : frameSeen (ringOf members ring) (firstFrame members ring) ≡ seen.token (ordered.foundingToken members (firstFrame members ring))
   unfolding firstToken
   starts = token-seen (ringOf members ring) (firstFrame members ring) (firstToken members ring) first-reads
 
@@ -126,10 +126,10 @@ module _ (members : List ℕ) (ring : ℕ) (counted : membersCounted members ≡
 
   abbrev startWith : List ℕ → ℕ → Store → Station
   startWith ms own held =
-      record { members = ms; own = own; level = 0; safe = 0; delivered = 0; aru = 0; last = 0; leave = none; held = held }
+      record { members = ms; own = own; level = 0; safe = 0; delivered = 0; aru = 0; last = 0; resendable = none; held = held }
 
   fresh-seen : (own : ℕ) → stationSeen (fresh members own ring) ≡ startWith members own (λ n. none)
-  unfolding stationSeen leaveOf fresh freshLog freshTurn
+  unfolding stationSeen resendableOf fresh freshLog freshTurn
   fresh-seen own =
       ap (λ ms. startWith ms own (storeOf (freshLog members ring))) (placed-front members)
       ∙ ap (startWith members own) fresh-store

@@ -17,8 +17,8 @@ use Rattle.record.proofs.HeldLaws.{HeldSizes, stored-at, let-go-at, given as en
 use Rattle.record.proofs.WholeFacts.{LogGood}
 use Rattle.station.specs.Level.{reached, levelOf, raised}
 use Rattle.station.specs.Deliver.{ringHeader, frameWith, entryOf, isAgreed, isDue, dueFrom, due, delivered}
-use Rattle.ordering.specs.Frame as seen
-use Rattle.ordering.specs.Station as abstract
+use Rattle.ordering.specs.inner.Frame as seen
+use Rattle.ordering.specs.inner.Station as abstract
 use Rattle.ring.proofs.View.{messageOf, messageAt, storeOf}
 
 -- ---- logs of one ring

@@ -11,21 +11,21 @@ use Rattle.frames.specs.declared.header.Header.{Header}
 use Rattle.record.specs.Members.{membersCounted, idsFollow, ringInRange}
 use Rattle.record.specs.Ring.{current}
 use Rattle.station.specs.Deliver.{ringHeader, joined}
-use Rattle.ordering.specs.Frame as seen
+use Rattle.ordering.specs.inner.Frame as seen
 use Rattle.ordering.specs.Lists.{Among, Begins, OneBegins}
-use Rattle.ordering.specs.Log as log
-use Rattle.ordering.specs.Run as ordered
-use Rattle.ordering.specs.Demand as demand
-use Rattle.ring.specs.Calls.{Call, placeOf, replyTo}
-use Rattle.ring.specs.Log.{Entry, Written, writtenIn, isNumbered, reading, isSafe, Received, deliveryList, handedBy, deliveries, DeliveredAt}
+use Rattle.ordering.specs.inner.History as cable
+use Rattle.ordering.specs.inner.Run as ordered
+use Rattle.ordering.specs.inner.Demand as demand
+use Rattle.ring.specs.Calls.{Call, stationOf, replyTo}
+use Rattle.ring.specs.History.{Event, Written, writtenIn, isNumbered, reading, isSafe, Received, deliveryList, handedBy, deliveries, DeliveredAt}
 use Rattle.record.specs.declared.Record.{Record}
 use Rattle.ring.specs.Run.{Ring, records, start, firstFrame, ringOf, run}
 use Rattle.ring.specs.Demand.{Account, accountOf, CanAfter, OneOrder, SafeFirst, Delivered, WholeRun, AcceptedIn, Round}
 use Rattle.ring.proofs.Going.{Possible, AcceptedIn as Accepts}
 use Rattle.ring.proofs.Law.{Rewrites, Law}
-use Rattle.ring.proofs.View.{messageIn, stationSeen, entrySeen}
+use Rattle.ring.proofs.View.{messageIn, stationSeen, eventSeen}
 use Rattle.ring.proofs.Lists.{texts, map-join, among-map, ⊎-map, some-inj, message-inj}
-use Rattle.ring.proofs.LogSeen.{message-seen, reading-numbered, writtenSeen, firstSeen, reading-seen, received-there, received-here, handed-seen, joined-join, delivery-list}
+use Rattle.ring.proofs.HistorySeen.{message-seen, reading-numbered, writtenSeen, firstSeen, reading-seen, received-there, received-here, handed-seen, joined-join, delivery-list}
 use Rattle.ring.proofs.Matches.{Matches, Stepped, step-law, Followed, followed}
 use Rattle.ring.proofs.Start.{starts, first-rewrites, station-starts, ring-starts}
 use Rattle.ring.proofs.Split.{run-join, possible-after, accepts-after, possible-first, possible-rest, run-join-seen, possible-join, reading-stays}
@@ -56,7 +56,7 @@ module _ (law : Law) (members : List ℕ) (ring : ℕ)
   this = ringOf members ring
 
   abbrev firstSeenToken : seen.Token
-  firstSeenToken = ordered.firstToken members first
+  firstSeenToken = ordered.foundingToken members first
 
   abbrev Match : Ring → ordered.Ring → Type 0
   Match s o = Matches law size this first firstSeenToken (starts members ring counted follow ranged) s o
@@ -80,7 +80,7 @@ module _ (law : Law) (members : List ℕ) (ring : ℕ)
   match-start =
       record {
         stations = λ p h. ap stationSeen (are p h) ∙ station-starts members ring counted follow ranged p h;
-        log = refl;
+        history = refl;
         rings = λ p h. ap (λ (r : Record). ringHeader (current r)) (are p h) ∙ ring-starts members ring counted follow ranged p h;
         cable = λ f h. on-start f h;
       }
@@ -93,20 +93,20 @@ module _ (law : Law) (members : List ℕ) (ring : ℕ)
   follow-on s o cs m h = followed law size this first firstSeenToken (starts members ring counted follow ranged) s o cs m h
 
   -- the delivery list of a ring that is seen
-  list-seen : (s : Ring) (o : ordered.Ring) (p : ℕ) → Match s o → joined (texts (log.handedAt p (o .log))) ≡ deliveryList p (s .log)
+  list-seen : (s : Ring) (o : ordered.Ring) (p : ℕ) → Match s o → joined (texts (cable.handedAt p (o .history))) ≡ deliveryList p (s .history)
   list-seen s o p m =
-      ap (λ l. joined (texts (log.handedAt p l))) (sym (m .log))
-      ∙ ap joined (handed-seen this p (s .log))
-      ∙ delivery-list p (s .log)
+      ap (λ l. joined (texts (cable.handedAt p l))) (sym (m .history))
+      ∙ ap joined (handed-seen this p (s .history))
+      ∙ delivery-list p (s .history)
 
   one-order : (calls : List Call) → Can calls → OneOrder members ring account calls
   one-order calls can p q p< q< =
       let f = follow-on (start founded) (ordered.start members) calls match-start can in
       let end = ordered.run (ordered.start members) (f .calls) in
-      let lists = ⊎-map (begins-joined (log.handedAt p (end .log)) (log.handedAt q (end .log))) (begins-joined (log.handedAt q (end .log)) (log.handedAt p (end .log)))
+      let lists = ⊎-map (begins-joined (cable.handedAt p (end .history)) (cable.handedAt q (end .history))) (begins-joined (cable.handedAt q (end .history)) (cable.handedAt p (end .history)))
       (ordering .one-order (f .calls) (f .possible) p q p< q<) in
-      subst (λ l. OneBegins l (deliveryList q (after calls .log))) (list-seen (after calls) end p (f .matches))
-      (subst (λ l. OneBegins (joined (texts (log.handedAt p (end .log)))) l) (list-seen (after calls) end q (f .matches)) lists)
+      subst (λ l. OneBegins l (deliveryList q (after calls .history))) (list-seen (after calls) end p (f .matches))
+      (subst (λ l. OneBegins (joined (texts (cable.handedAt p (end .history)))) l) (list-seen (after calls) end q (f .matches)) lists)
 
   -- ---- a safe reading had been received everywhere before
 
@@ -129,32 +129,32 @@ module _ (law : Law) (members : List ℕ) (ring : ℕ)
     possible-seen : demand.Allows members first (ahead .calls ++ (call-seen .call ∷ []))
     possible-seen = possible-join size firstSeenToken (ordered.start members) (ahead .calls) (call-seen .call ∷ []) (ahead .possible) (call-seen .possible, tt)
 
-    abbrev entryNow : Entry
-    entryNow = record { call = c; reply = replyTo (now .at (placeOf c)) c }
+    abbrev eventNow : Event
+    eventNow = record { call = c; reply = replyTo (now .at (stationOf c)) c }
 
     -- a frame that the call hands out is handed out as ordering sees it
-    handed-there : (f : List ℕ) → Among f (handedBy entryNow) → Among (messageIn f) (ordered.entry (nowSeen .at (ordered.placeOf (call-seen .call))) (call-seen .call) .handed)
-    unfolding entrySeen
+    handed-there : (f : List ℕ) → Among f (handedBy eventNow) → Among (messageIn f) (ordered.event (nowSeen .at (ordered.stationOf (call-seen .call))) (call-seen .call) .handed)
+    unfolding eventSeen
     handed-there f a =
-        let e : entrySeen this entryNow ≡ ordered.entry (nowSeen .at (ordered.placeOf (call-seen .call))) (call-seen .call) =
-        call-seen .entry ∙ ap (λ q. ordered.entry (nowSeen .at q) (call-seen .call)) (sym (call-seen .place)) in
-        subst (λ (x : log.Entry). Among (messageIn f) (x .handed)) e (among-map messageIn f (handedBy entryNow) a)
+        let e : eventSeen this eventNow ≡ ordered.event (nowSeen .at (ordered.stationOf (call-seen .call))) (call-seen .call) =
+        call-seen .event ∙ ap (λ q. ordered.event (nowSeen .at q) (call-seen .call)) (sym (call-seen .place)) in
+        subst (λ (x : cable.Event). Among (messageIn f) (x .handed)) e (among-map messageIn f (handedBy eventNow) a)
 
     safe-before : (n : ℕ) (w : Written)
         → isNumbered this n (w .frame) ≡ true
         → isSafe (w .frame) ≡ true
-        → Among (w .frame) (handedBy entryNow)
-        → (p : ℕ) → p < size → Received this (now .log) p n
+        → Among (w .frame) (handedBy eventNow)
+        → (p : ℕ) → p < size → Received this (now .history) p n
     unfolding isSafe messageIn
     safe-before n w numbered safe a p p< =
         let got = ordering .safe-first (ahead .calls) (call-seen .call) possible-seen (messageIn (w .frame)) (handed-there (w .frame) a) safe p p< in
         let number : messageIn (w .frame) .number ≡ n = message-seen this n (w .frame) numbered .1 in
-        received-here this (now .log) p n
-        (subst (log.Received p n) (sym (ahead .matches .log)) (subst (λ k. log.Received p k (nowSeen .log)) number got))
+        received-here this (now .history) p n
+        (subst (cable.Received p n) (sym (ahead .matches .history)) (subst (λ k. cable.Received p k (nowSeen .history)) number got))
 
   safe-first : (calls : List Call) → Can calls → SafeFirst members ring account calls
   safe-first calls can before later c e n w is safe a p p< =
-      safe-before before later c (subst Can e can) n w (reading-numbered this (after calls .log) n w is) safe a p p<
+      safe-before before later c (subst Can e can) n w (reading-numbered this (after calls .history) n w is) safe a p p<
 
   -- ---- three rounds later
 
@@ -214,10 +214,10 @@ module _ (law : Law) (members : List ℕ) (ring : ℕ)
         ∙ run-join-seen o₀ (f₁ .calls) (f₂ .calls ++ f₃ .calls)
         ∙ run-join-seen o₁ (f₂ .calls) (f₃ .calls)
 
-    module _ (m : ℕ) (got : (p n : ℕ) → p < size → 1 ≤ n → n ≤ m → Received this (s₀ .log) p n)
+    module _ (m : ℕ) (got : (p n : ℕ) → p < size → 1 ≤ n → n ≤ m → Received this (s₀ .history) p n)
         (r₁ : Round members ring account before one) (r₂ : Round members ring account (before ++ one) two) (r₃ : Round members ring account (before ++ (one ++ two)) three) where
-      got-seen : (p n : ℕ) → p < size → 1 ≤ n → n ≤ m → log.Received p n (o₀ .log)
-      got-seen p n p< low high = subst (log.Received p n) (f₀ .matches .log) (received-there this (s₀ .log) p n (got p n p< low high))
+      got-seen : (p n : ℕ) → p < size → 1 ≤ n → n ≤ m → cable.Received p n (o₀ .history)
+      got-seen p n p< low high = subst (cable.Received p n) (f₀ .matches .history) (received-there this (s₀ .history) p n (got p n p< low high))
 
       round₂ : demand.Round members first (demand.after members first (f₀ .calls ++ f₁ .calls)) (f₂ .calls)
       round₂ p p< =
@@ -231,29 +231,29 @@ module _ (law : Law) (members : List ℕ) (ring : ℕ)
           (f₃ .accepts p (subst (λ s. Accepts p s three) (run-join (start founded) before (one ++ two) ∙ run-join s₀ one two) (accepts-after members ring founded p (before ++ (one ++ two)) three (r₃ p p<))))
 
       delivered-later : (p n : ℕ) (w : Written) → p < size → 1 ≤ n → n ≤ m
-          → reading this (after (before ++ (one ++ (two ++ three))) .log) n ≡ some w
-          → DeliveredAt p (after (before ++ (one ++ (two ++ three))) .log) (w .frame)
+          → reading this (after (before ++ (one ++ (two ++ three))) .history) n ≡ some w
+          → DeliveredAt p (after (before ++ (one ++ (two ++ three))) .history) (w .frame)
       delivered-later p n w p< low high is =
           let d = ordering .delivered (f₀ .calls) (f₁ .calls) (f₂ .calls) (f₃ .calls) all-possible m got-seen (λ q q<. f₁ .accepts q (accepts-after members ring founded q before one (r₁ q q<))) round₂ round₃ p n p< low high in
           let g = got p n p< low high in
           -- the reading is the one that was received
           let same : g .first ≡ w =
-          some-inj (sym (reading-stays this s₀ (one ++ (two ++ three)) n (g .first) (g .is)) ∙ ap (λ (s : Ring). reading this (s .log) n) (sym (run-join (start founded) before (one ++ (two ++ three)))) ∙ is) in
+          some-inj (sym (reading-stays this s₀ (one ++ (two ++ three)) n (g .first) (g .is)) ∙ ap (λ (s : Ring). reading this (s .history) n) (sym (run-join (start founded) before (one ++ (two ++ three)))) ∙ is) in
           let first-is : writtenSeen this (g .first) ≡ d .1 =
-          some-inj (sym (ap (firstSeen this) (g .is)) ∙ sym (reading-seen this (s₀ .log) n) ∙ ap (λ l. log.reading l n) (f₀ .matches .log) ∙ d .2) in
-          let m-is = message-seen this n (g .first .frame) (reading-numbered this (s₀ .log) n (g .first) (g .is)) .0 in
-          let x-is : messageIn (g .first .frame) ≡ d .0 = message-inj (sym m-is ∙ ap (λ (v : log.Written). v .frame) first-is ∙ d .3) in
-          let there : Among (d .0) (log.handedAt p (ordered.run o₂ (f₃ .calls) .log)) = subst (λ (o : ordered.Ring). Among (d .0) (log.handedAt p (o .log))) end-seen (d .4) in
-          let texts-there : Among (d .0 .text) (deliveries p (run s₂ three .log)) =
-          subst (Among (d .0 .text)) (ap (λ l. texts (log.handedAt p l)) (sym (f₃ .matches .log)) ∙ handed-seen this p (run s₂ three .log))
-          (among-map (λ (x : seen.Message). x .text) (d .0) (log.handedAt p (ordered.run o₂ (f₃ .calls) .log)) there) in
-          subst (λ (s : Ring). DeliveredAt p (s .log) (w .frame)) (sym end)
-          (subst (λ f. Among f (deliveries p (run s₂ three .log))) (sym (ap (λ (x : seen.Message). x .text) x-is) ∙ text-in (g .first .frame) ∙ ap (λ (v : Written). v .frame) same) texts-there)
+          some-inj (sym (ap (firstSeen this) (g .is)) ∙ sym (reading-seen this (s₀ .history) n) ∙ ap (λ l. cable.reading l n) (f₀ .matches .history) ∙ d .2) in
+          let m-is = message-seen this n (g .first .frame) (reading-numbered this (s₀ .history) n (g .first) (g .is)) .0 in
+          let x-is : messageIn (g .first .frame) ≡ d .0 = message-inj (sym m-is ∙ ap (λ (v : cable.Written). v .frame) first-is ∙ d .3) in
+          let there : Among (d .0) (cable.handedAt p (ordered.run o₂ (f₃ .calls) .history)) = subst (λ (o : ordered.Ring). Among (d .0) (cable.handedAt p (o .history))) end-seen (d .4) in
+          let texts-there : Among (d .0 .text) (deliveries p (run s₂ three .history)) =
+          subst (Among (d .0 .text)) (ap (λ l. texts (cable.handedAt p l)) (sym (f₃ .matches .history)) ∙ handed-seen this p (run s₂ three .history))
+          (among-map (λ (x : seen.Message). x .text) (d .0) (cable.handedAt p (ordered.run o₂ (f₃ .calls) .history)) there) in
+          subst (λ (s : Ring). DeliveredAt p (s .history) (w .frame)) (sym end)
+          (subst (λ f. Among f (deliveries p (run s₂ three .history))) (sym (ap (λ (x : seen.Message). x .text) x-is) ∙ text-in (g .first .frame) ∙ ap (λ (v : Written). v .frame) same) texts-there)
 
   delivered : (calls : List Call) → Can calls → Delivered members ring account calls
   delivered calls can before one two three e n low got r₁ r₂ r₃ p w p< is =
-      subst (λ cs. DeliveredAt p (after cs .log) (w .frame)) (sym e)
-      (delivered-later before one two three (subst Can e can) n got r₁ r₂ r₃ p n w p< low (omega arith) (subst (λ cs. reading this (after cs .log) n ≡ some w) e is))
+      subst (λ cs. DeliveredAt p (after cs .history) (w .frame)) (sym e)
+      (delivered-later before one two three (subst Can e can) n got r₁ r₂ r₃ p n w p< low (omega arith) (subst (λ cs. reading this (after cs .history) n ≡ some w) e is))
 
   pub whole-run-from : (calls : List Call) → CanAfter members ring account [] calls → WholeRun members ring account calls
   unfolding run

@@ -1,4 +1,4 @@
--- A station, a frame and a call's entry as ordering sees them.
+-- A station, a frame and a call's event as ordering sees them.
 use Prim.Native.Nat.{ℕ}
 use mathlib.Core.Bool.{Bool, not, cond}
 use mathlib.Core.List.{List, [], map}
@@ -19,11 +19,11 @@ use Rattle.record.specs.declared.turn.Turn.{Turn}
 use Rattle.record.specs.declared.Record.{Record}
 use Rattle.station.specs.Deliver.{isAgreed, frameWith}
 use Rattle.station.specs.Within.{framesIn}
-use Rattle.ordering.specs.Frame as seen
-use Rattle.ordering.specs.Station.{Station, Store}
-use Rattle.ordering.specs.Log as ordered
+use Rattle.ordering.specs.inner.Frame as seen
+use Rattle.ordering.specs.inner.Station.{Station, Store}
+use Rattle.ordering.specs.inner.History as ordered
 use Rattle.ring.specs.Newest.{lastOf}
-use Rattle.ring.specs.Log.{Entry as Called, place, writtenBy, handedOver, saidKept, accepted, sameRing, saysSafe}
+use Rattle.ring.specs.History.{Event, place, writtenBy, handedOver, saidKept, isAccepted, sameRing, saysSafe}
 
 -- ---- frames
 
@@ -76,8 +76,8 @@ messageAt l n (some e) = some (messageOf l n e)
 unfoldable pub storeOf : Log → Store
 storeOf l n = messageAt l n (heldAt l n)
 
-unfoldable pub leaveOf : Turn → Option seen.Token
-leaveOf t = cond (mayResend t) (some (tokenIn (remembered t))) none
+unfoldable pub resendableOf : Turn → Option seen.Token
+resendableOf t = cond (mayResend t) (some (tokenIn (remembered t))) none
 
 unfoldable pub stationSeen : Record → Station
 stationSeen r =
@@ -89,7 +89,7 @@ stationSeen r =
       delivered = current r .delivered .0;
       aru = r .turn .aru .0;
       last = r .turn .number .0;
-      leave = leaveOf (r .turn);
+      resendable = resendableOf (r .turn);
       held = storeOf (current r);
     }
 
@@ -99,12 +99,12 @@ abbrev pub keptBy : Bool → Option (List ℕ) → Option seen.Message
 keptBy kept none = none
 keptBy kept (some frame) = cond kept (some (messageIn frame)) none
 
-unfoldable pub entrySeen : Header → Called → ordered.Entry
-entrySeen ring e =
+unfoldable pub eventSeen : Header → Event → ordered.Event
+eventSeen ring e =
     record {
       place = place e;
       kept = keptBy (saidKept (e .reply .answer)) (handedOver (e .call));
-      forwarded = cond (accepted e) (some (tokenIn (lastOf [] (writtenBy e)))) none;
+      forwarded = cond (isAccepted e) (some (tokenIn (lastOf [] (writtenBy e)))) none;
       written = map (frameSeen ring) (writtenBy e);
       handed = map messageIn (framesIn (e .reply .deliveries));
     }

@@ -17,19 +17,19 @@ use Rattle.station.specs.Within.{framesIn}
 use Rattle.station.specs.EveryArrival.{Each, Acceptable}
 use Rattle.station.proofs.VisitFacts.{now-ring, now-ids}
 use Rattle.station.proofs.VisitReads.{visit-reads}
-use Rattle.ordering.specs.Log as cable
-use Rattle.ordering.specs.Visit as visit
-use Rattle.ordering.specs.Run as ordered
+use Rattle.ordering.specs.inner.History as cable
+use Rattle.ordering.specs.inner.Visit as visit
+use Rattle.ordering.specs.inner.Run as ordered
 use Rattle.ring.specs.Calls.{Call, arrival, replyTo}
-use Rattle.ring.specs.Log as called
-use Rattle.ring.specs.Log.{isTokenNumbered, anyOf, acceptsToken}
+use Rattle.ring.specs.History as called
+use Rattle.ring.specs.History.{isTokenNumbered, anyOf, acceptsToken}
 use Rattle.ring.specs.Newest.{lastOf}
-use Rattle.ring.proofs.View.{tokenIn, messageIn, seenToken, stationSeen, frameSeen, entrySeen}
+use Rattle.ring.proofs.View.{tokenIn, messageIn, seenToken, stationSeen, frameSeen, eventSeen}
 use Rattle.ring.proofs.Law.{Rewrites, Sight, as-visit}
 use Rattle.ring.proofs.SeenLaws.{SeenReply, seen-as, station-same}
 use Rattle.ring.proofs.FrameLaws.{handed-seen, token-seen}
 use Rattle.ring.proofs.VisitMarks.{chosen, level-after, aru-after, safe-after, handed-after, delivered-after, store-after}
-use Rattle.ring.proofs.VisitToken.{token-after, leave-after}
+use Rattle.ring.proofs.VisitToken.{token-after, resendable-after}
 use Rattle.ring.proofs.VisitWritten.{last-written, next-written, rewrites, written-after, allowed}
 
 module _ (v : Visit) (ok : Acceptable v) (frame : List ℕ) where
@@ -73,7 +73,7 @@ module _ (v : Visit) (ok : Acceptable v) (frame : List ℕ) where
       (delivered-after v ok frame)
       (aru-there ∙ sym (aru-after v ok frame))
       last-after
-      (leave-after v ok frame)
+      (resendable-after v ok frame)
       (store-after v ok frame)
 
   -- ---- the call
@@ -92,7 +92,7 @@ module _ (v : Visit) (ok : Acceptable v) (frame : List ℕ) where
     hands = handed-seen (logNow v) (safe′ v) (visit-reads v ok .delivered .handed) ∙ sym (handed-after v ok frame)
 
     -- what a call did that wrote these frames
-    abbrev wrote : ℕ → List (List ℕ) → cable.Entry
+    abbrev wrote : ℕ → List (List ℕ) → cable.Event
     wrote place frames =
         record {
           place = place;
@@ -102,13 +102,13 @@ module _ (v : Visit) (ok : Acceptable v) (frame : List ℕ) where
           handed = map messageIn (framesIn (accepted v .deliveries));
         }
 
-    entry-wrote : (place : ℕ) (a b : List ℕ) → entrySeen (ringHeader (log v)) (record { call = arrival place frame a b; reply = accepted v }) ≡ wrote place (framesIn (accepted v .frames))
-    unfolding entrySeen called.accepted accepted
-    entry-wrote place a b = refl
+    event-wrote : (place : ℕ) (a b : List ℕ) → eventSeen (ringHeader (log v)) (record { call = arrival place frame a b; reply = accepted v }) ≡ wrote place (framesIn (accepted v .frames))
+    unfolding eventSeen called.isAccepted accepted
+    event-wrote place a b = refl
 
-    entry-after : (place : ℕ) (a b : List ℕ) → entrySeen (ringHeader (log v)) (record { call = arrival place frame a b; reply = accepted v }) ≡ ordered.entry (stationSeen (v .rec)) (seenVisit place)
-    entry-after place a b =
-        entry-wrote place a b
+    event-after : (place : ℕ) (a b : List ℕ) → eventSeen (ringHeader (log v)) (record { call = arrival place frame a b; reply = accepted v }) ≡ ordered.event (stationSeen (v .rec)) (seenVisit place)
+    event-after place a b =
+        event-wrote place a b
         ∙ ap (wrote place) (visit-reads v ok .within)
         ∙ rw (forwards, written-after v ok frame, hands)
 
@@ -118,7 +118,7 @@ module _ (v : Visit) (ok : Acceptable v) (frame : List ℕ) where
         record {
           at = refl;
           station = station-after;
-          entry = entry-after place a b;
+          event = event-after place a b;
           ring = ring-after;
           written = subst (Each Rewrites) (sym (visit-reads v ok .within)) (rewrites v ok);
         }

@@ -20,11 +20,11 @@ use Rattle.station.proofs.LevelLaws.{raised-level}
 use Rattle.station.proofs.LogSteps.{level-window}
 use Rattle.station.proofs.EachLaws.{after-length}
 use Rattle.station.proofs.VisitFacts.{facts, withNew, now-good, now-safe, now-delivered}
-use Rattle.ordering.specs.Frame as seen
-use Rattle.ordering.specs.Station.{Station, levelOf, release}
-use Rattle.ordering.specs.Station as ordered
-use Rattle.ordering.specs.Visit as visit
-use Rattle.ordering.specs.Visit.{Choice}
+use Rattle.ordering.specs.inner.Frame as seen
+use Rattle.ordering.specs.inner.Station.{Station, levelOf, release}
+use Rattle.ordering.specs.inner.Station as ordered
+use Rattle.ordering.specs.inner.Visit as visit
+use Rattle.ordering.specs.inner.Visit.{Choice}
 use Rattle.ring.proofs.View.{seenBlocker, seenToken, storeOf, stationSeen}
 use Rattle.ring.proofs.StoreLaws.{messageHeld, store-raised, store-delivered, store-let-go, level-same, good-held, due-same}
 use Rattle.ring.proofs.VisitStore.{new-level, store-now}
@@ -34,7 +34,7 @@ abbrev pub chosen : Visit → Choice
 chosen v =
     record {
       repeats = map (messageHeld (log v)) (repeats v);
-      news = map (messageHeld (logNow v)) (newNumbers v);
+      added = map (messageHeld (logNow v)) (newNumbers v);
       text = tokenBytes (token′ v);
     }
 
@@ -63,7 +63,7 @@ module _ (v : Visit) (ok : Acceptable v) (frame : List ℕ) where
       ∙ level-same (withNew v ok) (log v .level .0) (ap (λ k. k .0) (sym (new-level v ok)))
       ∙ sym (raised-level (withNew v ok))
 
-  pub new-count : length (chosen v .news) ≡ newCount v
+  pub new-count : length (chosen v .added) ≡ newCount v
   unfolding newNumbers
   new-count = length-map (newNumbers v) (messageHeld (logNow v)) ∙ after-length (v .token .highest .0) (newCount v)
 

@@ -15,8 +15,8 @@ use Rattle.station.specs.Visit.{Visit, log, own, newCount, numbersAfter, newNum
 use Rattle.station.specs.EveryArrival.{Acceptable}
 use Rattle.station.proofs.NewLaws.{new-rest, new-below, new-above}
 use Rattle.station.proofs.VisitFacts.{newPosts, withNew, new-length, new-fit, now-new, now-ring}
-use Rattle.ordering.specs.Frame as seen
-use Rattle.ordering.specs.Station.{Store, put, putAll}
+use Rattle.ordering.specs.inner.Frame as seen
+use Rattle.ordering.specs.inner.Station.{Store, put, putAll}
 use Rattle.ring.proofs.View.{messageAt, storeOf}
 use Rattle.ring.proofs.StoreLaws.{messageHeld, at-same, store-held}
 

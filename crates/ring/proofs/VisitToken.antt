@@ -1,4 +1,4 @@
--- The token that a visit writes, as ordering sees it, and the leave to resend it.
+-- The token that a visit writes, as ordering sees it, and that it may be resent.
 use Prim.Native.Nat.{ℕ, suc, _-_}
 use mathlib.Core.Path.{_≡_, refl, sym, ap, _∙_}
 use mathlib.Core.Logic.{_≢_}
@@ -21,9 +21,9 @@ use Rattle.record.specs.Turn.{mayResend, remembered}
 use Rattle.station.specs.Visit.{Visit, log, own, nextIn, token′, turn′, highest′, aru′, blocker′}
 use Rattle.station.specs.EveryArrival.{Acceptable}
 use Rattle.station.proofs.TokenLaws.{token-reads}
-use Rattle.ordering.specs.Frame as seen
-use Rattle.ordering.specs.Visit as visit
-use Rattle.ring.proofs.View.{seenBlocker, seenToken, tokenIn, leaveOf, stationSeen}
+use Rattle.ordering.specs.inner.Frame as seen
+use Rattle.ordering.specs.inner.Visit as visit
+use Rattle.ring.proofs.View.{seenBlocker, seenToken, tokenIn, resendableOf, stationSeen}
 use Rattle.ring.proofs.VisitMarks.{chosen, highest-after, aru-after, blocker-after}
 
 -- ---- the next member
@@ -87,10 +87,10 @@ module _ (v : Visit) (ok : Acceptable v) (frame : List ℕ) where
   unfolding turn′
   remembers = take-append-seam (tokenBytes (token′ v)) (replicate (longestToken - length (tokenBytes (token′ v))) 0)
 
-  has-leave : mayResend (turn′ v) ≡ true
+  is-resendable : mayResend (turn′ v) ≡ true
   unfolding turn′
-  has-leave = rw (ne-eqb (length (tokenBytes (token′ v))) 0 (token-some (token′ v)))
+  is-resendable = rw (ne-eqb (length (tokenBytes (token′ v))) 0 (token-some (token′ v)))
 
-  pub leave-after : leaveOf (turn′ v) ≡ some after
-  unfolding leaveOf
-  leave-after = rw (has-leave, remembers, token-after)
+  pub resendable-after : resendableOf (turn′ v) ≡ some after
+  unfolding resendableOf
+  resendable-after = rw (is-resendable, remembers, token-after)

@@ -20,11 +20,11 @@ use Rattle.station.proofs.VisitFacts.{new-window, now-ring}
 use Rattle.station.proofs.TokenLaws.{token-reads}
 use Rattle.station.proofs.VisitReads.{visit-reads}
 use Rattle.ordering.specs.Lists.{Among}
-use Rattle.ordering.specs.Frame as seen
-use Rattle.ordering.specs.Visit as visit
-use Rattle.ordering.specs.Visit.{NumberedFrom, Allowed}
+use Rattle.ordering.specs.inner.Frame as seen
+use Rattle.ordering.specs.inner.Visit as visit
+use Rattle.ordering.specs.inner.Visit.{NumberedFrom, Allowed}
 use Rattle.record.specs.Ring.{isToken}
-use Rattle.ring.specs.Log.{isTokenNumbered, anyOf}
+use Rattle.ring.specs.History.{isTokenNumbered, anyOf}
 use Rattle.ring.specs.Newest.{lastOf}
 use Rattle.ring.proofs.View.{seenToken, storeOf, stationSeen, frameSeen}
 use Rattle.ring.proofs.Law.{Rewrites}
@@ -120,6 +120,6 @@ module _ (v : Visit) (ok : Acceptable v) where
     allowed =
         record {
           repeats = among-held (log v) (repeats v) (visit-reads v ok .repeated);
-          news = numbered (logNow v) (v .token .highest .0) (newCount v);
+          added = numbered (logNow v) (v .token .highest .0) (newCount v);
           few = omega (arith, new-count v ok frame, new-window v);
         }

@@ -13,7 +13,7 @@ use Rattle.station.specs.Reply.{Reply}
 use Rattle.station.proofs.FoundLaws.{foundable-when}
 use Rattle.station.proofs.ReplyGood.{posted-good, resent-good}
 use Rattle.station.proofs.ArrivedGood.{arrived-good}
-use Rattle.ring.specs.Calls.{Call, post, arrival, resending, placeOf, replyTo}
+use Rattle.ring.specs.Calls.{Call, post, arrival, resending, stationOf, replyTo}
 use Rattle.ring.specs.Run.{Ring, records, update, step, run}
 use Rattle.ring.proofs.Going.{Possible}
 use Rattle.ring.proofs.Start.{own-among, founded-at}
@@ -36,12 +36,12 @@ call-whole r (post place service content) w = posted-good r service content .2 w
 call-whole r (arrival place frame frames deliveries) w = arrived-good r frame (length frames) (length deliveries) .2 w
 call-whole r (resending place frames) w = resent-good r (length frames) .2 w
 
-step-whole : (size : ℕ) (s : Ring) (c : Call) → placeOf c < size → Wholes size (s .at) → Wholes size (step s c .at)
+step-whole : (size : ℕ) (s : Ring) (c : Call) → stationOf c < size → Wholes size (s .at) → Wholes size (step s c .at)
 unfolding step update
-step-whole size s c here w q h = by-place (eqb q (placeOf c))
+step-whole size s c here w q h = by-place (eqb q (stationOf c))
   where
-    by-place : (b : Bool) → whole (cond b (replyTo (s .at (placeOf c)) c .rec) (s .at q)) ≡ true
-    by-place true = call-whole (s .at (placeOf c)) c (w (placeOf c) here)
+    by-place : (b : Bool) → whole (cond b (replyTo (s .at (stationOf c)) c .rec) (s .at q)) ≡ true
+    by-place true = call-whole (s .at (stationOf c)) c (w (stationOf c) here)
     by-place false = w q h
 
 pub run-whole : (size : ℕ) (first : List ℕ) (s : Ring) (cs : List Call) → Possible size first s cs → Wholes size (s .at) → Wholes size (run s cs .at)

@@ -1,5 +1,5 @@
 pub mod Calls
-pub mod Log
+pub mod History
 pub mod Run
 pub mod Demand
 pub mod Listed

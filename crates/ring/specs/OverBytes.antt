@@ -11,8 +11,8 @@ use Rattle.record.specs.Layout.{recordSize}
 use Rattle.record.specs.Lent.{bytesWhole}
 use Rattle.station.specs.Reply.{Reply, doneOf}
 use Rattle.totem.specs.Over.{idsIn, stationAfter, foundOver, postOver, arriveOver, resendOver}
-use Rattle.ring.specs.Calls.{Call, post, arrival, resending, placeOf}
-use Rattle.ring.specs.Log.{Entry}
+use Rattle.ring.specs.Calls.{Call, post, arrival, resending, stationOf}
+use Rattle.ring.specs.History.{Event}
 use Rattle.ring.specs.Run.{ringFoundable, firstFrame}
 use Rattle.ring.specs.Demand.{Account, CanAfter, WholeRun}
 use Rattle.ring.specs.Listed.{ListedInOrder}
@@ -32,7 +32,7 @@ bytesAfter s (resending place frames) = s
 
 pub record RingOver : Type 0 where
   pub at : ℕ → List ℕ
-  pub log : List Entry
+  pub history : List Event
 
 unfoldable pub updateOver : ℕ → List ℕ → (ℕ → List ℕ) → ℕ → List ℕ
 updateOver p s at q = cond (eqb q p) s (at q)
@@ -40,8 +40,8 @@ updateOver p s at q = cond (eqb q p) s (at q)
 unfoldable pub stepOver : RingOver → Call → RingOver
 stepOver r c =
     record {
-      at = updateOver (placeOf c) (bytesAfter (r .at (placeOf c)) c) (r .at);
-      log = record { call = c; reply = replyOver (r .at (placeOf c)) c } ∷ r .log;
+      at = updateOver (stationOf c) (bytesAfter (r .at (stationOf c)) c) (r .at);
+      history = record { call = c; reply = replyOver (r .at (stationOf c)) c } ∷ r .history;
     }
 
 unfoldable pub runOver : RingOver → List Call → RingOver
@@ -49,13 +49,13 @@ runOver r [] = r
 runOver r (c ∷ cs) = runOver (stepOver r c) cs
 
 abbrev pub startOver : (ℕ → List ℕ) → RingOver
-startOver founded = record { at = founded; log = [] }
+startOver founded = record { at = founded; history = [] }
 
 abbrev pub accountOver : (ℕ → List ℕ) → Account
 accountOver founded =
     record {
-      log = λ calls. runOver (startOver founded) calls .log;
-      reply = λ before c. replyOver (runOver (startOver founded) before .at (placeOf c)) c;
+      history = λ calls. runOver (startOver founded) calls .history;
+      reply = λ before c. replyOver (runOver (startOver founded) before .at (stationOf c)) c;
     }
 
 -- founding over C at a place; `list` has the members, two bytes an id

@@ -12,13 +12,13 @@ use Rattle.record.specs.Members.{representative, membersCounted, idsFollow, rin
 use Rattle.record.specs.declared.Record.{Record}
 use Rattle.station.specs.Reply.{Reply}
 use Rattle.station.specs.Found.{foundedOn}
-use Rattle.ring.specs.Calls.{Call, placeOf, replyTo}
-use Rattle.ring.specs.Log.{Entry}
+use Rattle.ring.specs.Calls.{Call, stationOf, replyTo}
+use Rattle.ring.specs.History.{Event}
 
 -- the stations by place, and what was called
 pub record Ring : Type 0 where
   pub at : ℕ → Record
-  pub log : List Entry
+  pub history : List Event
 
 -- ---- founding: one record for each member, and the ring's first token on the cable
 
@@ -56,13 +56,13 @@ update p r at q = cond (eqb q p) r (at q)
 unfoldable pub step : Ring → Call → Ring
 step s c =
     record {
-      at = update (placeOf c) (replyTo (s .at (placeOf c)) c .rec) (s .at);
-      log = record { call = c; reply = replyTo (s .at (placeOf c)) c } ∷ s .log;
+      at = update (stationOf c) (replyTo (s .at (stationOf c)) c .rec) (s .at);
+      history = record { call = c; reply = replyTo (s .at (stationOf c)) c } ∷ s .history;
     }
 
 -- the ring after a list of calls, from those records on
 abbrev pub start : (ℕ → Record) → Ring
-start founded = record { at = founded; log = [] }
+start founded = record { at = founded; history = [] }
 
 unfoldable pub run : Ring → List Call → Ring
 run s [] = s

@@ -13,7 +13,7 @@ use Rattle.frames.specs.declared.reader.Answer.{Answer}
 use Rattle.frames.specs.declared.reader.Answer.the-variants.{Refused, IsMessage, IsToken}
 use Rattle.station.specs.Reply.{mostFrames, mostDeliveries}
 use Rattle.ring.specs.Calls.{Call, post, arrival, replyTo}
-use Rattle.ring.specs.Log.{Entry, Written, place, writtenBy, reading, deliveryList, handedBy, accepted}
+use Rattle.ring.specs.History.{Event, Written, place, writtenBy, reading, deliveryList, handedBy, isAccepted}
 use Rattle.ring.specs.Run.{Ring, records, firstFrame, ringOf, start, run}
 use Rattle.ring.specs.Demand.{overStructs, CanAfter}
 use Rattle.ring.specs.Newest.{newest}
@@ -21,11 +21,11 @@ use Rattle.ring.specs.Stations.{placeFrom}
 
 -- ---- r 4 3 7
 
-abbrev pub members : List ℕ
-members = 3 ∷ 7 ∷ []
+abbrev pub scriptMembers : List ℕ
+scriptMembers = 3 ∷ 7 ∷ []
 
-abbrev pub ring : ℕ
-ring = 4
+abbrev pub scriptRing : ℕ
+scriptRing = 4
 
 -- ---- t: the newest token to its addressee, and its broadcasts to all others by place
 
@@ -34,10 +34,10 @@ abbrev arrives : ℕ → List ℕ → Call
 arrives p frame = arrival p frame (replicate mostFrames 0) (replicate mostDeliveries 0)
 
 -- all frames but the last, the token
-unfoldable pub broadcasts : List (List ℕ) → List (List ℕ)
-broadcasts [] = []
-broadcasts (f ∷ []) = []
-broadcasts (f ∷ g ∷ fs) = f ∷ broadcasts (g ∷ fs)
+unfoldable pub allButToken : List (List ℕ) → List (List ℕ)
+allButToken [] = []
+allButToken (f ∷ []) = []
+allButToken (f ∷ g ∷ fs) = f ∷ allButToken (g ∷ fs)
 
 -- at each of the places from p on but one
 unfoldable pub toOthers : ℕ → List ℕ → ℕ → List (List ℕ) → List Call
@@ -47,12 +47,12 @@ toOthers p (x ∷ xs) one frames = cond (eqb p one) [] (map (arrives p) frames) 
 unfoldable pub handsOn : Ring → List ℕ → ℕ → List Call
 handsOn s token p =
     arrives p token
-    ∷ toOthers 0 members p (broadcasts (writtenBy (record { call = arrives p token; reply = replyTo (s .at p) (arrives p token) })))
+    ∷ toOthers 0 scriptMembers p (allButToken (writtenBy (record { call = arrives p token; reply = replyTo (s .at p) (arrives p token) })))
 
 unfoldable pub tick : Ring → List Call
 tick s =
-    let token = newest (firstFrame members ring) (s .log) in
-    handsOn s token (placeFrom 0 members (readOf token .token .addressee))
+    let token = newest (firstFrame scriptMembers scriptRing) (s .history) in
+    handsOn s token (placeFrom 0 scriptMembers (readOf token .token .addressee))
 
 unfoldable pub ticks : ℕ → Ring → List Call
 ticks zero s = []
@@ -60,19 +60,19 @@ ticks (suc n) s = let calls = tick s in calls ++ ticks n (run s calls)
 
 -- ---- the script: p 1 1 up, p 0 0 ok, then five lines t
 
-abbrev pub posts : List Call
-posts = post 1 1 (117 ∷ 112 ∷ []) ∷ post 0 0 (111 ∷ 107 ∷ []) ∷ []
+abbrev pub scriptPosts : List Call
+scriptPosts = post 1 1 (117 ∷ 112 ∷ []) ∷ post 0 0 (111 ∷ 107 ∷ []) ∷ []
 
 -- n lines t
 unfoldable pub scriptOf : ℕ → List Call
-scriptOf n = posts ++ ticks n (run (start (records members ring)) posts)
+scriptOf n = scriptPosts ++ ticks n (run (start (records scriptMembers scriptRing)) scriptPosts)
 
 unfoldable pub script : List Call
 script = scriptOf 5
 
 -- what its calls come to
-unfoldable pub entries : List Entry
-entries = overStructs members ring .log script
+unfoldable pub scriptEvents : List Event
+scriptEvents = overStructs scriptMembers scriptRing .history script
 
 -- ---- each delivery prints place, message number, sender, service, content
 
@@ -88,7 +88,7 @@ lineBy p frame (Refused why) = record { place = p; number = 0; sender = 0; servi
 lineBy p frame (IsMessage m) = record { place = p; number = m .number .0; sender = m .sender; service = m .service; content = contentOf frame }
 lineBy p frame IsToken = record { place = p; number = 0; sender = 0; service = 0; content = [] }
 
-unfoldable pub linesOf : List Entry → List Line
+unfoldable pub linesOf : List Event → List Line
 linesOf [] = []
 linesOf (e ∷ earlier) = linesOf earlier ++ map (λ f. lineBy (place e) f (readOf f .answer)) (handedBy e)
 
@@ -125,25 +125,25 @@ abbrev pub frameIn : Option Written → List ℕ
 frameIn none = []
 frameIn (some w) = w .frame
 
-unfoldable pub readings : List Entry → List ℕ
-readings es = frameIn (reading (ringOf members ring) es 1) ++ frameIn (reading (ringOf members ring) es 2)
+unfoldable pub readings : List Event → List ℕ
+readings es = frameIn (reading (ringOf scriptMembers scriptRing) es 1) ++ frameIn (reading (ringOf scriptMembers scriptRing) es 2)
 
 -- two frames of 24 bytes, so both readings are there
-unfoldable pub listsAre : List ℕ → List Entry → Bool
+unfoldable pub listsAre : List ℕ → List Event → Bool
 listsAre bytes es = eqb (length bytes) 48 && same (deliveryList 0 es) bytes && same (deliveryList 1 es) bytes
 
 -- ---- rounds: the places of accepted tokens, the oldest first
 
-unfoldable pub acceptedAt : List Entry → List ℕ
+unfoldable pub acceptedAt : List Event → List ℕ
 acceptedAt [] = []
-acceptedAt (e ∷ earlier) = acceptedAt earlier ++ cond (accepted e) (place e ∷ []) []
+acceptedAt (e ∷ earlier) = acceptedAt earlier ++ cond (isAccepted e) (place e ∷ []) []
 
 -- ---- the script runs
 
 pub record ScriptRuns : Type 0 where
   -- its calls can be made, and print that
-  pub can : CanAfter members ring (overStructs members ring) [] script
-  pub prints : sameLines (linesOf entries) printed ≡ true
-  pub lists : listsAre (readings entries) entries ≡ true
+  pub can : CanAfter scriptMembers scriptRing (overStructs scriptMembers scriptRing) [] script
+  pub prints : sameLines (linesOf scriptEvents) printed ≡ true
+  pub lists : listsAre (readings scriptEvents) scriptEvents ≡ true
   -- with seven lines t: after the first, three rounds
-  pub rounds : same (acceptedAt (overStructs members ring .log (scriptOf 7))) (0 ∷ 1 ∷ 0 ∷ 1 ∷ 0 ∷ 1 ∷ 0 ∷ []) ≡ true
+  pub rounds : same (acceptedAt (overStructs scriptMembers scriptRing .history (scriptOf 7))) (0 ∷ 1 ∷ 0 ∷ 1 ∷ 0 ∷ 1 ∷ 0 ∷ []) ≡ true

@@ -34,11 +34,11 @@ recordsAfter p reply records = withRecord p (stationAfter (doneOf reply) (record
 
 -- ---- posting, and a frame that arrives
 
-abbrev pub postAt : ℕ → List ℕ → ℕ → List ℕ → Reply
-postAt p records service content = postOver (recordAt p records) service content
+abbrev pub postedAt : ℕ → List ℕ → ℕ → List ℕ → Reply
+postedAt p records service content = postOver (recordAt p records) service content
 
-abbrev pub arriveAt : ℕ → List ℕ → List ℕ → ℕ → ℕ → Reply
-arriveAt p records frame frames deliveries = arriveOver (recordAt p records) frame frames deliveries
+abbrev pub arrivedAt : ℕ → List ℕ → List ℕ → ℕ → ℕ → Reply
+arrivedAt p records frame frames deliveries = arriveOver (recordAt p records) frame frames deliveries
 
 -- ---- founding a ring: each member's station at its place
 

@@ -5,7 +5,7 @@ use mathlib.Core.List.{List, [], _∷_}
 use mathlib.Core.Option.{Option, none, some}
 use lib.ListN.{length}
 use lib.Dec.{leb, ltb, eqb}
-use Rattle.ordering.specs.Frame.{Message, Token}
+use Rattle.ordering.specs.inner.Frame.{Message, Token}
 
 -- the messages that a station holds, by number
 abbrev pub Store : Type 0
@@ -23,7 +23,7 @@ pub record Station : Type 0 where
   pub aru : ℕ
   pub last : ℕ
   -- the token that may be resent
-  pub leave : Option Token
+  pub resendable : Option Token
   pub held : Store
 
 -- numbers above the safe mark that a station holds
@@ -91,6 +91,6 @@ heard s x =
       delivered = s .delivered + length (handedWith s x);
       aru = s .aru;
       last = s .last;
-      leave = none;
+      resendable = none;
       held = heldWith s x;
     }

@@ -1,4 +1,4 @@
--- The words of demand 3 for a log, and the same words for the log as ordering sees it.
+-- The words of demand 3 for a history, and the same words for the history as ordering sees it.
 use Prim.Native.Nat.{ℕ, zero, suc, _+_, _≤_}
 use mathlib.Core.Path.{_≡_, refl, sym, _∙_, ap, subst}
 use mathlib.Core.Bool.{Bool, true, false, _&&_, cond, and-false, false≢true}
@@ -18,13 +18,13 @@ use Rattle.frames.specs.declared.reader.Answer.the-variants.{Refused, IsMessage
 use Rattle.station.specs.Deliver.{joined}
 use Rattle.station.specs.Within.{framesUpTo, framesIn}
 pub use Rattle.station.proofs.FrameLaws.{joined-join}
-use Rattle.ordering.specs.Frame as seen
+use Rattle.ordering.specs.inner.Frame as seen
 use Rattle.ordering.specs.Lists.{firstOf}
 use Rattle.ordering.proofs.Base.{first-is}
-use Rattle.ordering.specs.Log as ordered
-use Rattle.ring.specs.Log.{Entry, Written, place, writtenBy, writtenAt, writtenIn, isMessageOf, isNumbered, reading, sameRing, saidKept, handedOver, KeptAt, Received, deliveryList, handedBy, deliveries}
+use Rattle.ordering.specs.inner.History as ordered
+use Rattle.ring.specs.History.{Event, Written, place, writtenBy, writtenAt, writtenIn, isMessageOf, isNumbered, reading, sameRing, saidKept, handedOver, KeptAt, Received, deliveryList, handedBy, deliveries}
 use Rattle.ring.proofs.Lists.{texts, map-join, map-twice, ⊎-map, none≢some, some-inj, message-inj}
-use Rattle.ring.proofs.View.{tokenIn, messageNumber, messageIn, frameBy, frameSeen, keptBy, entrySeen}
+use Rattle.ring.proofs.View.{tokenIn, messageNumber, messageIn, frameBy, frameSeen, keptBy, eventSeen}
 
 -- ---- frames within bytes: joined they are the bytes
 
@@ -79,8 +79,8 @@ module _ (ring : Header) where
   abbrev pub writtenSeen : Written → ordered.Written
   writtenSeen w = record { frame = frameSeen ring (w .frame); place = w .place }
 
-  pub written-seen : (log : List Entry) → ordered.writtenIn (map (entrySeen ring) log) ≡ map writtenSeen (writtenIn log)
-  unfolding writtenIn ordered.writtenIn entrySeen
+  pub written-seen : (history : List Event) → ordered.writtenIn (map (eventSeen ring) history) ≡ map writtenSeen (writtenIn history)
+  unfolding writtenIn ordered.writtenIn eventSeen
   written-seen [] = refl
   written-seen (e ∷ earlier) =
       rw (written-seen earlier, map-join writtenSeen (writtenIn earlier) (map (writtenAt (place e)) (writtenBy e)))
@@ -100,19 +100,19 @@ module _ (ring : Header) where
       by-first true h = refl
       by-first false h = h
 
-  pub reading-seen : (log : List Entry) (n : ℕ) → ordered.reading (map (entrySeen ring) log) n ≡ firstSeen (reading ring log n)
+  pub reading-seen : (history : List Event) (n : ℕ) → ordered.reading (map (eventSeen ring) history) n ≡ firstSeen (reading ring history n)
   unfolding reading ordered.reading
-  reading-seen log n = rw (written-seen log) (first-seen n (writtenIn log))
+  reading-seen history n = rw (written-seen history) (first-seen n (writtenIn history))
 
   -- the reading of a number has that number
-  pub reading-numbered : (log : List Entry) (n : ℕ) (w : Written) → reading ring log n ≡ some w → isNumbered ring n (w .frame) ≡ true
+  pub reading-numbered : (history : List Event) (n : ℕ) (w : Written) → reading ring history n ≡ some w → isNumbered ring n (w .frame) ≡ true
   unfolding reading
-  reading-numbered log n w e = first-is (λ u. isNumbered ring n (u .frame)) (writtenIn log) w e .1
+  reading-numbered history n w e = first-is (λ u. isNumbered ring n (u .frame)) (writtenIn history) w e .1
 
   -- ---- received, both ways
 
-  kept-there : (p n : ℕ) (frame : List ℕ) (log : List Entry) → frameSeen ring frame ≡ seen.message (messageIn frame) → KeptAt p frame log → ordered.KeptAt p (frameSeen ring frame) (map (entrySeen ring) log)
-  unfolding entrySeen
+  kept-there : (p n : ℕ) (frame : List ℕ) (history : List Event) → frameSeen ring frame ≡ seen.message (messageIn frame) → KeptAt p frame history → ordered.KeptAt p (frameSeen ring frame) (map (eventSeen ring) history)
+  unfolding eventSeen
   kept-there p n frame (e ∷ earlier) m (inl k) =
       let kept : keptBy (saidKept (e .reply .answer)) (handedOver (e .call)) ≡ some (messageIn frame) = rw (k .1, k .2) in
       inl (k .0, (messageIn frame, kept, m))
@@ -125,36 +125,36 @@ module _ (ring : Header) where
   kept-by true (some f) x e = (refl, ap (λ (y : seen.Message). some (y .text)) (some-inj e))
   kept-by false (some f) x e = absurd (none≢some e)
 
-  kept-here : (p n : ℕ) (frame : List ℕ) (log : List Entry) → frameSeen ring frame ≡ seen.message (messageIn frame) → ordered.KeptAt p (frameSeen ring frame) (map (entrySeen ring) log) → KeptAt p frame log
-  unfolding entrySeen messageIn
+  kept-here : (p n : ℕ) (frame : List ℕ) (history : List Event) → frameSeen ring frame ≡ seen.message (messageIn frame) → ordered.KeptAt p (frameSeen ring frame) (map (eventSeen ring) history) → KeptAt p frame history
+  unfolding eventSeen messageIn
   kept-here p n frame (e ∷ earlier) m (inl k) =
       let h = kept-by (saidKept (e .reply .answer)) (handedOver (e .call)) (k .1 .0) (k .1 .1) in
       let same : messageIn frame ≡ k .1 .0 = message-inj (sym m ∙ k .1 .2) in
       inl (k .0, h .1 ∙ ap some (sym (ap (λ (y : seen.Message). y .text) same)), h .0)
   kept-here p n frame (e ∷ earlier) m (inr k) = inr (kept-here p n frame earlier m k)
 
-  pub received-there : (log : List Entry) (p n : ℕ) → Received ring log p n → ordered.Received p n (map (entrySeen ring) log)
-  received-there log p n r =
+  pub received-there : (history : List Event) (p n : ℕ) → Received ring history p n → ordered.Received p n (map (eventSeen ring) history)
+  received-there history p n r =
       record {
         first = writtenSeen (r .first);
-        is = reading-seen log n ∙ ap firstSeen (r .is);
-        how = ⊎-map (kept-there p n (r .first .frame) log (message-seen n (r .first .frame) (reading-numbered log n (r .first) (r .is)) .0)) (λ h. h) (r .how);
+        is = reading-seen history n ∙ ap firstSeen (r .is);
+        how = ⊎-map (kept-there p n (r .first .frame) history (message-seen n (r .first .frame) (reading-numbered history n (r .first) (r .is)) .0)) (λ h. h) (r .how);
       }
 
-  pub received-here : (log : List Entry) (p n : ℕ) → ordered.Received p n (map (entrySeen ring) log) → Received ring log p n
-  received-here log p n r = by-reading (reading ring log n) refl (sym (reading-seen log n) ∙ r .is)
+  pub received-here : (history : List Event) (p n : ℕ) → ordered.Received p n (map (eventSeen ring) history) → Received ring history p n
+  received-here history p n r = by-reading (reading ring history n) refl (sym (reading-seen history n) ∙ r .is)
     where
-      by-reading : (o : Option Written) → reading ring log n ≡ o → firstSeen o ≡ some (r .first) → Received ring log p n
+      by-reading : (o : Option Written) → reading ring history n ≡ o → firstSeen o ≡ some (r .first) → Received ring history p n
       by-reading none e f = absurd (none≢some f)
       by-reading (some w) e f =
           let same : writtenSeen w ≡ r .first = some-inj f in
-          let m = message-seen n (w .frame) (reading-numbered log n w e) .0 in
+          let m = message-seen n (w .frame) (reading-numbered history n w e) .0 in
           record {
             first = w;
             is = e;
             how =
                 ⊎-map
-                (λ k. kept-here p n (w .frame) log m (subst (λ (v : ordered.Written). ordered.KeptAt p (v .frame) (map (entrySeen ring) log)) (sym same) k))
+                (λ k. kept-here p n (w .frame) history m (subst (λ (v : ordered.Written). ordered.KeptAt p (v .frame) (map (eventSeen ring) history)) (sym same) k))
                 (λ h. ap (λ (v : ordered.Written). v .place) same ∙ h)
                 (r .how);
           }
@@ -166,18 +166,18 @@ module _ (ring : Header) where
   texts-in [] = refl
   texts-in (f ∷ fs) = ap (λ rest. f ∷ rest) (texts-in fs)
 
-  pub handed-seen : (p : ℕ) (log : List Entry) → texts (ordered.handedAt p (map (entrySeen ring) log)) ≡ deliveries p log
-  unfolding ordered.handedAt deliveries entrySeen
+  pub handed-seen : (p : ℕ) (history : List Event) → texts (ordered.handedAt p (map (eventSeen ring) history)) ≡ deliveries p history
+  unfolding ordered.handedAt deliveries eventSeen
   handed-seen p [] = refl
   handed-seen p (e ∷ earlier) =
-      map-join (λ (x : seen.Message). x .text) (ordered.handedAt p (map (entrySeen ring) earlier)) (cond (eqb (place e) p) (map messageIn (handedBy e)) [])
+      map-join (λ (x : seen.Message). x .text) (ordered.handedAt p (map (eventSeen ring) earlier)) (cond (eqb (place e) p) (map messageIn (handedBy e)) [])
       ∙ rw (handed-seen p earlier) (ap (λ new. deliveries p earlier ++ new) (by-place (eqb (place e) p)))
     where
       by-place : (b : Bool) → texts (cond b (map messageIn (handedBy e)) []) ≡ cond b (handedBy e) []
       by-place true = texts-in (handedBy e)
       by-place false = refl
 
-pub delivery-list : (p : ℕ) (log : List Entry) → joined (deliveries p log) ≡ deliveryList p log
+pub delivery-list : (p : ℕ) (history : List Event) → joined (deliveries p history) ≡ deliveryList p history
 unfolding deliveryList deliveries flatten
 delivery-list p [] = refl
 delivery-list p (e ∷ earlier) =

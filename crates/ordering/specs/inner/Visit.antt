@@ -8,12 +8,13 @@ use mathlib.Core.Option.{Option, none, some}
 use lib.ListN.{length, getD}
 use lib.Dec.{ltb, eqb}
 use Rattle.ordering.specs.Lists.{Among}
-use Rattle.ordering.specs.Frame.{Message, Token, Frame, message, token}
-use Rattle.ordering.specs.Station.{Store, Station, window, putAll, release, levelOf, due}
+use Rattle.ordering.specs.inner.Frame.{Message, Token, Frame, message, token}
+use Rattle.ordering.specs.inner.Station.{Store, Station, window, putAll, release, levelOf, due}
 
 pub record Choice : Type 0 where
   pub repeats : List Message
-  pub news : List Message
+  -- the new messages
+  pub added : List Message
   -- of the token that is written
   pub text : List ℕ
 
@@ -26,8 +27,8 @@ pub record Allowed (s : Station) (t : Token) (c : Choice) : Type 0 where
   -- a repeat is held
   pub repeats : (x : Message) → Among x (c .repeats) → (n : ℕ) × (s .held n ≡ some x)
   -- new messages take the next numbers, up to safe mark + 32
-  pub news : NumberedFrom (t .highest) (c .news)
-  pub few : t .highest + length (c .news) ≤ max (t .highest) (s .safe + window)
+  pub added : NumberedFrom (t .highest) (c .added)
+  pub few : t .highest + length (c .added) ≤ max (t .highest) (s .safe + window)
 
 -- the member after `own`; after the last comes the first
 unfoldable pub nextIn : ℕ → List ℕ → ℕ → ℕ
@@ -40,10 +41,10 @@ next members own = nextIn (getD members 0 0) members own
 module _ (s : Station) (t : Token) (c : Choice) where
   -- 3
   abbrev pub heldAfter : Store
-  heldAfter = putAll (c .news) (s .held)
+  heldAfter = putAll (c .added) (s .held)
 
   abbrev pub highestAfter : ℕ
-  highestAfter = t .highest + length (c .news)
+  highestAfter = t .highest + length (c .added)
 
   abbrev pub levelAfter : ℕ
   levelAfter = levelOf heldAfter (s .level)
@@ -92,10 +93,10 @@ module _ (s : Station) (t : Token) (c : Choice) where
         delivered = s .delivered + length handedAfter;
         aru = aruAfter;
         last = suc (t .number);
-        leave = some tokenAfter;
+        resendable = some tokenAfter;
         held = release safeAfter heldAfter;
       }
 
   -- repeats, new messages, token
   unfoldable pub visitWrites : List Frame
-  visitWrites = map message (c .repeats) ++ map message (c .news) ++ (token tokenAfter ∷ [])
+  visitWrites = map message (c .repeats) ++ map message (c .added) ++ (token tokenAfter ∷ [])

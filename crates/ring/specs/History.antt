@@ -1,4 +1,4 @@
--- The words of demand 3, each a definition of its own. A log has the calls and their replies, the newest first.
+-- The words of demand 3, each a definition of its own. A history has the events, the newest first.
 -- [document 01, The words of demand 3]
 use Prim.Native.Nat.{ℕ, _+_}
 use mathlib.Core.Path.{_≡_}
@@ -17,18 +17,19 @@ use Rattle.station.specs.Reply.{Reply}
 use Rattle.station.specs.Within.{framesIn}
 use Rattle.station.specs.declared.answer.Answer.{Answer as Said}
 use Rattle.ordering.specs.Lists.{Among, firstOf}
-use Rattle.ring.specs.Calls.{Call, post, arrival, resending, placeOf}
+use Rattle.ring.specs.Calls.{Call, post, arrival, resending, stationOf}
 
-pub record Entry : Type 0 where
+-- a call and its reply
+pub record Event : Type 0 where
   pub call : Call
   pub reply : Reply
 
-abbrev pub place : Entry → ℕ
-place e = placeOf (e .call)
+abbrev pub place : Event → ℕ
+place e = stationOf (e .call)
 
 -- ---- written for the cable: a frame within an answer's output counts, deliveries apart
 
-abbrev pub writtenBy : Entry → List (List ℕ)
+abbrev pub writtenBy : Event → List (List ℕ)
 writtenBy e = framesIn (e .reply .frames)
 
 -- a frame and the place of the call that wrote it
@@ -40,13 +41,13 @@ abbrev pub writtenAt : ℕ → List ℕ → Written
 writtenAt place frame = record { frame = frame; place = place }
 
 -- all that the calls wrote for the cable, the oldest first
-unfoldable pub writtenIn : List Entry → List Written
+unfoldable pub writtenIn : List Event → List Written
 writtenIn [] = []
 writtenIn (e ∷ earlier) = writtenIn earlier ++ map (writtenAt (place e)) (writtenBy e)
 
 -- a frame is on the cable: founding's token, or written by a call
-abbrev pub OnCable : List ℕ → List Entry → List ℕ → Type 0
-OnCable first log frame = (frame ≡ first) ⊎ ((place : ℕ) × Among (writtenAt place frame) (writtenIn log))
+abbrev pub OnCable : List ℕ → List Event → List ℕ → Type 0
+OnCable first history frame = (frame ≡ first) ⊎ ((place : ℕ) × Among (writtenAt place frame) (writtenIn history))
 
 -- ---- reading n: the ring's first message frame with number n that a call wrote for the cable
 
@@ -61,8 +62,8 @@ isMessageOf ring n IsToken = false
 unfoldable pub isNumbered : Header → ℕ → List ℕ → Bool
 isNumbered ring n frame = isMessageOf ring n (readOf frame .answer)
 
-unfoldable pub reading : Header → List Entry → ℕ → Option Written
-reading ring log n = firstOf (λ w. isNumbered ring n (w .frame)) (writtenIn log)
+unfoldable pub reading : Header → List Event → ℕ → Option Written
+reading ring history n = firstOf (λ w. isNumbered ring n (w .frame)) (writtenIn history)
 
 -- its service says whether it is safe
 abbrev pub saysSafe : Answer → Bool
@@ -85,33 +86,33 @@ handedOver (post place service content) = none
 handedOver (arrival place frame frames deliveries) = some frame
 handedOver (resending place frames) = none
 
-abbrev pub KeptAt : ℕ → List ℕ → List Entry → Type 0
+abbrev pub KeptAt : ℕ → List ℕ → List Event → Type 0
 KeptAt p frame [] = ⊥
 KeptAt p frame (e ∷ earlier) =
     ((place e ≡ p) × (handedOver (e .call) ≡ some frame) × (saidKept (e .reply .answer) ≡ true))
     ⊎ KeptAt p frame earlier
 
-pub record Received (ring : Header) (log : List Entry) (p n : ℕ) : Type 0 where
+pub record Received (ring : Header) (history : List Event) (p n : ℕ) : Type 0 where
   pub first : Written
-  pub is : reading ring log n ≡ some first
-  pub how : KeptAt p (first .frame) log ⊎ (first .place ≡ p)
+  pub is : reading ring history n ≡ some first
+  pub how : KeptAt p (first .frame) history ⊎ (first .place ≡ p)
 
 -- ---- a station's delivery list: the frames that its calls handed out, joined in the order of the calls
 
-unfoldable pub deliveryList : ℕ → List Entry → List ℕ
+unfoldable pub deliveryList : ℕ → List Event → List ℕ
 deliveryList p [] = []
 deliveryList p (e ∷ earlier) = deliveryList p earlier ++ cond (eqb (place e) p) (e .reply .deliveries) []
 
 -- the frames in it, and delivered there: in that list
-abbrev pub handedBy : Entry → List (List ℕ)
+abbrev pub handedBy : Event → List (List ℕ)
 handedBy e = framesIn (e .reply .deliveries)
 
-unfoldable pub deliveries : ℕ → List Entry → List (List ℕ)
+unfoldable pub deliveries : ℕ → List Event → List (List ℕ)
 deliveries p [] = []
 deliveries p (e ∷ earlier) = deliveries p earlier ++ cond (eqb (place e) p) (handedBy e) []
 
-abbrev pub DeliveredAt : ℕ → List Entry → List ℕ → Type 0
-DeliveredAt p log frame = Among frame (deliveries p log)
+abbrev pub DeliveredAt : ℕ → List Event → List ℕ → Type 0
+DeliveredAt p history frame = Among frame (deliveries p history)
 
 -- ---- accepted token: an arrival of a token whose answer writes the token with the next number
 
@@ -128,5 +129,5 @@ acceptsToken none frames = false
 acceptsToken (some frame) frames =
     isToken (readOf frame .answer) && anyOf (isTokenNumbered (readOf frame .token .number .0 + 1)) frames
 
-unfoldable pub accepted : Entry → Bool
-accepted e = acceptsToken (handedOver (e .call)) (writtenBy e)
+unfoldable pub isAccepted : Event → Bool
+isAccepted e = acceptsToken (handedOver (e .call)) (writtenBy e)
