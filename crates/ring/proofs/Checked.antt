@@ -13,8 +13,8 @@ use Rattle.record.specs.declared.Record.{Record}
 use Rattle.ordering.specs.Lists.{Among}
 use Rattle.ring.specs.Calls.{Call, post, arrival, resending, stationOf}
 use Rattle.ring.specs.History.{Event, Written, writtenAt, writtenIn, OnCable}
-use Rattle.ring.specs.Run.{Ring, start, firstFrame, step, run}
-use Rattle.ring.specs.Demand.{accountOf, Handed, CanAfter}
+use Rattle.ring.specs.Run.{Ring, start, firstFrame, step, run, accountOf, structs}
+use Rattle.ring.specs.Demand.{Handed, CanAfter}
 use Rattle.ring.proofs.Going.{Possible}
 use Rattle.ring.proofs.Split.{can-after}
 
@@ -49,11 +49,11 @@ any-among f (w ∷ ws) e = by-first (either (same f (w .frame)) (anyFrame f ws) 
     by-first (inl s) rest = (w .place, inl (ap (writtenAt (w .place)) (same-true f (w .frame) s)))
     by-first (inr s) rest = let a = rest s in (a .0, inr (a .1))
 
-on-cable : (first : List ℕ) (history : List Event) (f : List ℕ) → onCable first history f ≡ true → OnCable first history f
+on-cable : (first : List ℕ) (history : List Event) (f : List ℕ) → onCable first history f ≡ true → OnCable (first ∷ []) history f
 on-cable first history f e = by-first (either (same f first) (anyFrame f (writtenIn history)) e)
   where
-    by-first : (same f first ≡ true) ⊎ (anyFrame f (writtenIn history) ≡ true) → OnCable first history f
-    by-first (inl s) = inl (same-true f first s)
+    by-first : (same f first ≡ true) ⊎ (anyFrame f (writtenIn history) ≡ true) → OnCable (first ∷ []) history f
+    by-first (inl s) = inl (inl (same-true f first s))
     by-first (inr s) = inr (any-among f (writtenIn history) s)
 
 -- ---- the calls can be made
@@ -63,25 +63,25 @@ handed first history (post place service content) = true
 handed first history (arrival place frame frames deliveries) = onCable first history frame
 handed first history (resending place frames) = true
 
-unfoldable pub possible : ℕ → List ℕ → Ring → List Call → Bool
+unfoldable pub possible : ℕ → List ℕ → Ring Record → List Call → Bool
 possible size first s [] = true
-possible size first s (c ∷ cs) = ltb (stationOf c) size && handed first (s .history) c && possible size first (step s c) cs
+possible size first s (c ∷ cs) = ltb (stationOf c) size && handed first (s .history) c && possible size first (step structs s c) cs
 
-handed-over : (first : List ℕ) (history : List Event) (c : Call) → handed first history c ≡ true → Handed first history c
+handed-over : (first : List ℕ) (history : List Event) (c : Call) → handed first history c ≡ true → Handed (first ∷ []) history c
 handed-over first history (post place service content) e = tt
 handed-over first history (arrival place frame frames deliveries) e = on-cable first history frame e
 handed-over first history (resending place frames) e = tt
 
-is-possible : (size : ℕ) (first : List ℕ) (s : Ring) (cs : List Call) → possible size first s cs ≡ true → Possible size first s cs
+is-possible : (size : ℕ) (first : List ℕ) (s : Ring Record) (cs : List Call) → possible size first s cs ≡ true → Possible size first s cs
 unfolding possible
 is-possible size first s [] e = tt
 is-possible size first s (c ∷ cs) e = (
   ltb-true (stationOf c) size (part e (λ (f : ltb (stationOf c) size ≡ false). rw f)),
   handed-over first (s .history) c (part e (λ (f : handed first (s .history) c ≡ false). simp (f, and-false))),
-  is-possible size first (step s c) cs (part e (λ (f : possible size first (step s c) cs ≡ false). simp (f, and-false))),
+  is-possible size first (step structs s c) cs (part e (λ (f : possible size first (step structs s c) cs ≡ false). simp (f, and-false))),
 )
 
 module _ (members : List ℕ) (ring : ℕ) (founded : ℕ → Record) where
-  pub can-be-made : (cs : List Call) → possible (length members) (firstFrame members ring) (start founded) cs ≡ true → CanAfter members ring (accountOf founded) [] cs
+  pub can-be-made : (cs : List Call) → possible (length members) (firstFrame members ring) (start founded) cs ≡ true → CanAfter members ring (accountOf structs founded) [] cs
   unfolding run
   can-be-made cs e = can-after members ring founded [] cs (is-possible (length members) (firstFrame members ring) (start founded) cs e)

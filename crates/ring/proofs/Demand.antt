@@ -10,8 +10,8 @@ use Rattle.record.specs.declared.Record.{Record}
 use Rattle.ordering.specs.inner.Demand as ordered
 use Rattle.ordering.proofs.Theorem.{demand₃ as demand-ordered}
 use Rattle.ring.specs.Calls.{Call}
-use Rattle.ring.specs.Run.{records, firstFrame}
-use Rattle.ring.specs.Demand.{Account, accountOf, CanAfter, WholeRun, Demand₃}
+use Rattle.ring.specs.Run.{records, firstFrame, Account, accountOf, structs}
+use Rattle.ring.specs.Demand.{CanAfter, WholeRun, Demand₃}
 use Rattle.ring.proofs.CallLaw.{sight}
 use Rattle.ring.proofs.Start.{RingFacts, ring-facts, ids-distinct, some-member}
 use Rattle.ring.proofs.Theorem.{whole-run-from}
@@ -21,8 +21,8 @@ abbrev pub FromFounded : List ℕ → ℕ → (Account → List Call → Type 0)
 FromFounded members ring P = (founded : ℕ → Record)
     → ((p : ℕ) → p < length members → founded p ≡ records members ring p)
     → (calls : List Call)
-    → CanAfter members ring (accountOf founded) [] calls
-    → P (accountOf founded) calls
+    → CanAfter members ring (accountOf structs founded) [] calls
+    → P (accountOf structs founded) calls
 
 -- ordering's theorem, of the ring's members and its first token
 pub in-order : (members : List ℕ) (ring : ℕ) → membersCounted members ≡ true → idsFollow members ≡ true → ringInRange ring ≡ true → ordered.Demand₃ members (firstFrame members ring)

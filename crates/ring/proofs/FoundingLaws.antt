@@ -20,11 +20,8 @@ use Rattle.record.specs.Members.{membersCounted, idsFollow, ringInRange, founda
 use Rattle.record.proofs.MemberLaws.{foundable-facts}
 use Rattle.record.proofs.FreshLaws.{fresh-whole}
 use Rattle.record.proofs.RoundTrip.{record-restored}
-use Rattle.station.specs.Refusal.{refusalNumber}
 use Rattle.station.specs.Found.{founded}
-use Rattle.station.proofs.RefusalLaws.{some-number}
 use Rattle.station.specs.declared.answer.Outcome.{Outcome}
-use Rattle.station.specs.declared.refusal.Refusal.{Refusal}
 use Rattle.station.specs.declared.refusal.Refusal.the-variants.{NoRoom}
 use Rattle.station.specs.declared.answer.Answer.the-variants.{Refused}
 use Rattle.station.proofs.ReplyGood.{founded-either}
@@ -32,6 +29,7 @@ use Rattle.totem.specs.Over.{idsIn, stationAfter, foundOver}
 use Rattle.ring.specs.Run.{ringFoundable}
 use Rattle.ring.specs.OverBytes.{bytesFounded, Founding}
 use Rattle.ring.specs.Stations.{recordAt, withRecord, recordsAfter, ringFounded, recordsFounded, foundedUpTo, ringAfter, FoundedForDemand}
+use Rattle.ring.proofs.LentRun.{refused-left}
 use Rattle.ring.proofs.PlaceLaws.{with-same}
 
 -- the own id is that of the place
@@ -45,11 +43,6 @@ pub own-at : (p : ℕ) (records list : List ℕ) (ring : ℕ) (token : List ℕ)
     × (records′ ≡ recordsAfter p (foundOver (recordAt p records) list (getD (idsIn list) p 0) ring (length token)) records)
     × (token′ ≡ followedBy (foundOver (recordAt p records) list (getD (idsIn list) p 0) ring (length token) .frames) token)
 own-at p records list ring token own e o records′ token′ h = rw e at h
-
--- ---- a refusal is not taken
-
-refused-left : (why : Refusal) → isTaken (Refused why) ≡ false
-refused-left why = ne-eqb (refusalNumber why) 0 (some-number why)
 
 -- ---- the bytes that a founding leaves are as many as there were
 

@@ -4,17 +4,18 @@ use mathlib.Core.Path.{_≡_}
 use mathlib.Core.Bool.{true}
 use mathlib.Core.List.{List, [], _∷_}
 use mathlib.Core.Logic.{_⊎_}
+use Rattle.record.specs.declared.Record.{Record}
 use Rattle.ring.specs.Calls.{Call, stationOf, replyTo}
 use Rattle.ring.specs.History.{isAccepted}
-use Rattle.ring.specs.Run.{Ring, step}
+use Rattle.ring.specs.Run.{Ring, step, structs}
 use Rattle.ring.specs.Demand.{Handed}
 
-abbrev pub Possible : ℕ → List ℕ → Ring → List Call → Type 0
+abbrev pub Possible : ℕ → List ℕ → Ring Record → List Call → Type 0
 Possible size first s [] = Unit {0}
-Possible size first s (c ∷ cs) = (stationOf c < size) × Handed first (s .history) c × Possible size first (step s c) cs
+Possible size first s (c ∷ cs) = (stationOf c < size) × Handed (first ∷ []) (s .history) c × Possible size first (step structs s c) cs
 
-abbrev pub AcceptedIn : ℕ → Ring → List Call → Type 0
+abbrev pub AcceptedIn : ℕ → Ring Record → List Call → Type 0
 AcceptedIn p s [] = ⊥
 AcceptedIn p s (c ∷ cs) =
     ((stationOf c ≡ p) × (isAccepted (record { call = c; reply = replyTo (s .at (stationOf c)) c }) ≡ true))
-    ⊎ AcceptedIn p (step s c) cs
+    ⊎ AcceptedIn p (step structs s c) cs

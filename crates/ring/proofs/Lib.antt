@@ -28,6 +28,7 @@ pub mod Accepting
 pub mod NewestSeen
 pub mod Newest
 pub mod Promise
+pub mod LentRun
 pub mod OverBytes
 pub mod Checked
 pub mod PlaceLaws

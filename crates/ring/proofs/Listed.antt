@@ -11,8 +11,7 @@ use Rattle.ordering.specs.inner.Run as ordered
 use Rattle.ordering.proofs.Listed.{ListedFrom, listed as listed-seen}
 use Rattle.ring.specs.Calls.{Call}
 use Rattle.ring.specs.History.{Event, Written, reading}
-use Rattle.ring.specs.Run.{records, firstFrame, ringOf, start, run}
-use Rattle.ring.specs.Demand.{Account, accountOf}
+use Rattle.ring.specs.Run.{records, firstFrame, ringOf, start, run, Account, accountOf, structs}
 use Rattle.ring.specs.Listed.{ReadingsFrom, ListedInOrder, Listed}
 use Rattle.ring.proofs.View.{messageIn, eventSeen}
 use Rattle.ring.proofs.CallLaw.{sight}
@@ -52,11 +51,11 @@ listed-from members ring facts founded are calls can p p< =
     let f = follow-on sight members ring (facts .counted) (facts .follow) (facts .ranged) order founded are
     (start founded) (ordered.start members) calls begun (possible-after members ring founded [] calls can) in
     let this = ringOf members ring in
-    let events = run (start founded) calls .history in
+    let events = run structs (start founded) calls .history in
     let there = listed-seen members (firstFrame members ring) (ids-distinct members (facts .follow))
     (omega (arith, some-member members ring (facts .counted) (facts .follow) (facts .ranged))) (f .calls) (f .possible) p p< in
-    subst (ReadingsFrom members ring (accountOf founded) calls 1) (handed-seen this p events)
-    (readings-here members ring (accountOf founded) calls 1 (cable.handedAt p (map (eventSeen this) events))
+    subst (ReadingsFrom members ring (accountOf structs founded) calls 1) (handed-seen this p events)
+    (readings-here members ring (accountOf structs founded) calls 1 (cable.handedAt p (map (eventSeen this) events))
     (subst (λ l. ListedFrom l 1 (cable.handedAt p l)) (sym (f .matches .history)) there))
 
 pub listed : Listed

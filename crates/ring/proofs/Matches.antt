@@ -15,9 +15,10 @@ use Rattle.ordering.specs.inner.Station.{Station}
 use Rattle.ordering.specs.inner.Visit.{Allowed}
 use Rattle.ordering.specs.inner.History.{OnCable as OnCableSeen, Event as EventSeen}
 use Rattle.ordering.specs.inner.Run as ordered
+use Rattle.record.specs.declared.Record.{Record}
 use Rattle.ring.specs.Calls.{Call, post, arrival, resending, stationOf, replyTo}
 use Rattle.ring.specs.History.{Event, Written, place, writtenBy, writtenAt, writtenIn, OnCable, isAccepted}
-use Rattle.ring.specs.Run.{Ring, update, step, run}
+use Rattle.ring.specs.Run.{Ring, update, step, run, structs}
 use Rattle.ring.specs.Demand.{Handed}
 use Rattle.ring.proofs.Going.{Possible, AcceptedIn}
 use Rattle.ring.specs.Newest.{lastOf}
@@ -26,32 +27,33 @@ use Rattle.ring.proofs.Law.{Rewrites, HandedRewrites, Law, SeenAs, Sigh
 use Rattle.ring.proofs.Lists.{among-map, among-back, among-join, each-among, ⊎-map}
 use Rattle.ring.proofs.HistorySeen.{writtenSeen, written-seen}
 
-abbrev pub eventOf : Ring → Call → Event
+abbrev pub eventOf : Ring Record → Call → Event
 eventOf s c = record { call = c; reply = replyTo (s .at (stationOf c)) c }
 
-module _ (law : Law) (size : ℕ) (ring : Header) (first : List ℕ) (firstToken : seen.Token) (starts : frameSeen ring first ≡ seen.token firstToken) where
-  pub record Matches (s : Ring) (o : ordered.Ring) : Type 0 where
+module _ (law : Law) (size : ℕ) (ring : Header) (first : List ℕ) (foundingToken : seen.Token) (starts : frameSeen ring first ≡ seen.token foundingToken) where
+  pub record Matches (s : Ring Record) (o : ordered.Ring) : Type 0 where
     pub stations : (p : ℕ) → p < size → stationSeen (s .at p) ≡ o .at p
     pub history : map (eventSeen ring) (s .history) ≡ o .history
     pub rings : (p : ℕ) → p < size → ringHeader (current (s .at p)) ≡ ring
-    pub cable : (f : List ℕ) → OnCable first (s .history) f → Rewrites f
+    pub cable : (f : List ℕ) → OnCable (first ∷ []) (s .history) f → Rewrites f
 
   -- a call and what it is seen as
-  pub record Stepped (s : Ring) (o : ordered.Ring) (c : Call) : Type 0 where
+  pub record Stepped (s : Ring Record) (o : ordered.Ring) (c : Call) : Type 0 where
     pub call : ordered.Call
     pub place : ordered.stationOf call ≡ stationOf c
-    pub possible : ordered.Possible size firstToken o call
-    pub matches : Matches (step s c) (ordered.step o call)
+    pub possible : ordered.Possible size foundingToken o call
+    pub matches : Matches (step structs s c) (ordered.step o call)
     pub event : eventSeen ring (eventOf s c) ≡ ordered.event (o .at (stationOf c)) call
 
   -- ---- on the cable
 
-  on-cable : (history : List Event) (f : List ℕ) → OnCable first history f → OnCableSeen firstToken (map (eventSeen ring) history) (frameSeen ring f)
-  on-cable history f (inl e) = inl (ap (frameSeen ring) e ∙ starts)
+  on-cable : (history : List Event) (f : List ℕ) → OnCable (first ∷ []) history f → OnCableSeen foundingToken (map (eventSeen ring) history) (frameSeen ring f)
+  on-cable history f (inl (inl e)) = inl (ap (frameSeen ring) e ∙ starts)
+  on-cable history f (inl (inr none)) = absurd none
   on-cable history f (inr h) =
       inr (h .0, subst (λ ws. Among (writtenSeen ring (writtenAt (h .0) f)) ws) (sym (written-seen ring history)) (among-map (writtenSeen ring) (writtenAt (h .0) f) (writtenIn history) (h .1)))
 
-  new-cable : (s : Ring) (o : ordered.Ring) (c : Call) (d : ordered.Call) → Matches s o → SeenAs (s .at (stationOf c)) c d → (f : List ℕ) → OnCable first (step s c .history) f → Rewrites f
+  new-cable : (s : Ring Record) (o : ordered.Ring) (c : Call) (d : ordered.Call) → Matches s o → SeenAs (s .at (stationOf c)) c d → (f : List ℕ) → OnCable (first ∷ []) (step structs s c .history) f → Rewrites f
   unfolding step writtenIn
   new-cable s o c d m k f (inl e) = m .cable f (inl e)
   new-cable s o c d m k f (inr h) = by-end (among-join (writtenAt (h .0) f) (writtenIn (s .history)) (map (writtenAt (stationOf c)) (writtenBy (eventOf s c))) (h .1))
@@ -64,8 +66,8 @@ module _ (law : Law) (size : ℕ) (ring : Header) (first : List ℕ) (firstToken
 
   -- ---- a call
 
-  module _ (s : Ring) (o : ordered.Ring) (c : Call) (d : ordered.Call) (m : Matches s o) (here : stationOf c < size) (k : SeenAs (s .at (stationOf c)) c d) where
-    new-station : (q : ℕ) → q < size → stationSeen (step s c .at q) ≡ ordered.step o d .at q
+  module _ (s : Ring Record) (o : ordered.Ring) (c : Call) (d : ordered.Call) (m : Matches s o) (here : stationOf c < size) (k : SeenAs (s .at (stationOf c)) c d) where
+    new-station : (q : ℕ) → q < size → stationSeen (step structs s c .at q) ≡ ordered.step o d .at q
     unfolding step ordered.step update ordered.update
     new-station q h =
         subst
@@ -77,7 +79,7 @@ module _ (law : Law) (size : ℕ) (ring : Header) (first : List ℕ) (firstToken
         by-place true = k .station ∙ ap (λ (t : Station). ordered.moved t d) (m .stations (stationOf c) here)
         by-place false = m .stations q h
 
-    new-ring : (q : ℕ) → q < size → ringHeader (current (step s c .at q)) ≡ ring
+    new-ring : (q : ℕ) → q < size → ringHeader (current (step structs s c .at q)) ≡ ring
     unfolding step update
     new-ring q h = by-place (eqb q (stationOf c))
       where
@@ -91,13 +93,13 @@ module _ (law : Law) (size : ℕ) (ring : Header) (first : List ℕ) (firstToken
         ∙ k .event
         ∙ ap (λ (t : Station). ordered.event t d) (m .stations (stationOf c) here)
 
-    new-history : map (eventSeen ring) (step s c .history) ≡ ordered.step o d .history
+    new-history : map (eventSeen ring) (step structs s c .history) ≡ ordered.step o d .history
     unfolding step ordered.step
     new-history =
         ap (λ e. e ∷ map (eventSeen ring) (s .history)) (new-event ∙ ap (λ p. ordered.event (o .at p) d) (sym (k .at)))
         ∙ ap (λ l. ordered.event (o .at (ordered.stationOf d)) d ∷ l) (m .history)
 
-    stepped : ordered.Possible size firstToken o d → Stepped s o c
+    stepped : ordered.Possible size foundingToken o d → Stepped s o c
     stepped possible =
         record {
           call = d;
@@ -107,25 +109,25 @@ module _ (law : Law) (size : ℕ) (ring : Header) (first : List ℕ) (firstToken
           event = new-event;
         }
 
-  handed-rewrites : (s : Ring) (o : ordered.Ring) (c : Call) → Matches s o → Handed first (s .history) c → HandedRewrites c
+  handed-rewrites : (s : Ring Record) (o : ordered.Ring) (c : Call) → Matches s o → Handed (first ∷ []) (s .history) c → HandedRewrites c
   handed-rewrites s o (post place service content) m h = tt
   handed-rewrites s o (arrival place frame frames deliveries) m h = m .cable frame h
   handed-rewrites s o (resending place frames) m h = tt
 
   -- the frame of an arrival, as it is seen, is on the cable
-  seen-on-cable : (s : Ring) (o : ordered.Ring) (c : Call) (frame a b : List ℕ) (f : seen.Frame)
+  seen-on-cable : (s : Ring Record) (o : ordered.Ring) (c : Call) (frame a b : List ℕ) (f : seen.Frame)
       → Matches s o
       → stationOf c < size
-      → Handed first (s .history) c
+      → Handed (first ∷ []) (s .history) c
       → c ≡ arrival (stationOf c) frame a b
       → frameSeen (ringHeader (current (s .at (stationOf c)))) frame ≡ f
-      → OnCableSeen firstToken (o .history) f
+      → OnCableSeen foundingToken (o .history) f
   seen-on-cable s o c frame a b f m here h is e =
-      let handed : OnCable first (s .history) frame = subst (Handed first (s .history)) is h in
+      let handed : OnCable (first ∷ []) (s .history) frame = subst (Handed (first ∷ []) (s .history)) is h in
       let same : frameSeen ring frame ≡ f = ap (λ (r : Header). frameSeen r frame) (sym (m .rings (stationOf c) here)) ∙ e in
-      subst (λ l. OnCableSeen firstToken l f) (m .history) (subst (OnCableSeen firstToken (map (eventSeen ring) (s .history))) same (on-cable (s .history) frame handed))
+      subst (λ l. OnCableSeen foundingToken l f) (m .history) (subst (OnCableSeen foundingToken (map (eventSeen ring) (s .history))) same (on-cable (s .history) frame handed))
 
-  step-seen : (s : Ring) (o : ordered.Ring) (c : Call) → Matches s o → stationOf c < size → Handed first (s .history) c → Sight (s .at (stationOf c)) c → Stepped s o c
+  step-seen : (s : Ring Record) (o : ordered.Ring) (c : Call) → Matches s o → stationOf c < size → Handed (first ∷ []) (s .history) c → Sight (s .at (stationOf c)) c → Stepped s o c
   step-seen s o c m here h (as-quiet k) = stepped s o c (ordered.quiet (stationOf c)) m here k here
   step-seen s o c m here h (as-resending k) = stepped s o c (ordered.resending (stationOf c)) m here k here
   step-seen s o c m here h (as-hearing frame a b x is e k) =
@@ -140,15 +142,15 @@ module _ (law : Law) (size : ℕ) (ring : Header) (first : List ℕ) (firstToken
         subst (λ (x : Station). Allowed x t choice) same allowed,
       )
 
-  pub step-law : (s : Ring) (o : ordered.Ring) (c : Call) → Matches s o → stationOf c < size → Handed first (s .history) c → Stepped s o c
+  pub step-law : (s : Ring Record) (o : ordered.Ring) (c : Call) → Matches s o → stationOf c < size → Handed (first ∷ []) (s .history) c → Stepped s o c
   step-law s o c m here h = step-seen s o c m here h (law (s .at (stationOf c)) c (handed-rewrites s o c m h))
 
   -- ---- a list of calls
 
-  pub record Followed (s : Ring) (o : ordered.Ring) (cs : List Call) : Type 0 where
+  pub record Followed (s : Ring Record) (o : ordered.Ring) (cs : List Call) : Type 0 where
     pub calls : List ordered.Call
-    pub possible : ordered.AllPossible size firstToken o calls
-    pub matches : Matches (run s cs) (ordered.run o calls)
+    pub possible : ordered.AllPossible size foundingToken o calls
+    pub matches : Matches (run structs s cs) (ordered.run o calls)
     pub accepts : (p : ℕ) → AcceptedIn p s cs → ordered.AcceptedIn p o calls
 
   -- an accepted token is forwarded
@@ -156,19 +158,19 @@ module _ (law : Law) (size : ℕ) (ring : Header) (first : List ℕ) (firstToken
   unfolding eventSeen
   forwarded e h = (tokenIn (lastOf [] (writtenBy e)), rw h)
 
-  accepted-here : (s : Ring) (o : ordered.Ring) (c : Call) (k : Stepped s o c) (p : ℕ) → (stationOf c ≡ p) × (isAccepted (eventOf s c) ≡ true)
+  accepted-here : (s : Ring Record) (o : ordered.Ring) (c : Call) (k : Stepped s o c) (p : ℕ) → (stationOf c ≡ p) × (isAccepted (eventOf s c) ≡ true)
       → (ordered.stationOf (k .call) ≡ p) × ((t : seen.Token) × (ordered.event (o .at (ordered.stationOf (k .call))) (k .call) .forwarded ≡ some t))
   accepted-here s o c k p h =
       let f = forwarded (eventOf s c) (h .1) in
       let e : eventSeen ring (eventOf s c) ≡ ordered.event (o .at (ordered.stationOf (k .call))) (k .call) = k .event ∙ ap (λ q. ordered.event (o .at q) (k .call)) (sym (k .place)) in
       (k .place ∙ h .0, (f .0, ap (λ (x : EventSeen). x .forwarded) (sym e) ∙ f .1))
 
-  pub followed : (s : Ring) (o : ordered.Ring) (cs : List Call) → Matches s o → Possible size first s cs → Followed s o cs
+  pub followed : (s : Ring Record) (o : ordered.Ring) (cs : List Call) → Matches s o → Possible size first s cs → Followed s o cs
   unfolding run ordered.run
   followed s o [] m h = record { calls = []; possible = tt; matches = m; accepts = λ p a. a }
   followed s o (c ∷ cs) m h =
       let k = step-law s o c m (h .0) (h .1) in
-      let rest = followed (step s c) (ordered.step o (k .call)) cs (k .matches) (h .2) in
+      let rest = followed (step structs s c) (ordered.step o (k .call)) cs (k .matches) (h .2) in
       record {
         calls = k .call ∷ rest .calls;
         possible = (k .possible, rest .possible);

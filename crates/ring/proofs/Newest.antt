@@ -20,8 +20,8 @@ use Rattle.ordering.specs.inner.History as cable
 use Rattle.ordering.specs.inner.Run as ordered
 use Rattle.ordering.proofs.Newest.{Newest, newest-is}
 use Rattle.ring.specs.Calls.{Call}
-use Rattle.ring.specs.Run.{Ring, records, firstFrame, ringOf, start, run}
-use Rattle.ring.specs.Demand.{accountOf, CanAfter}
+use Rattle.ring.specs.Run.{Ring, records, firstFrame, ringOf, start, run, accountOf, structs}
+use Rattle.ring.specs.Demand.{CanAfter}
 use Rattle.ring.specs.Newest.{newest, newestAfter, NewestAccepted, NeverRefused}
 use Rattle.ring.proofs.Going.{Possible}
 use Rattle.ring.proofs.View.{tokenIn, storeOf, stationSeen, eventSeen}
@@ -45,19 +45,19 @@ module _ (members : List ℕ) (ring : ℕ)
   abbrev firstSeen : seen.Token
   firstSeen = ordered.foundingToken members first
 
-  abbrev Match : Ring → ordered.Ring → Type 0
+  abbrev Match : Ring Record → ordered.Ring → Type 0
   Match s o = Matches sight (length members) (ringOf members ring) first firstSeen (starts members ring counted follow ranged) s o
 
   matched : Match (start founded) (ordered.start members)
   matched = match-start sight members ring counted follow ranged (in-order members ring counted follow ranged) founded are
 
   module _ (calls : List Call) (can : Possible (length members) first (start founded) calls) where
-    abbrev now : Ring
-    now = run (start founded) calls
+    abbrev now : Ring Record
+    now = run structs (start founded) calls
 
     -- the newest token's frame
     abbrev frame : List ℕ
-    frame = newestAfter members ring (accountOf founded) calls
+    frame = newestAfter members ring (accountOf structs founded) calls
 
     abbrev token : Token
     token = readOf frame .token
@@ -147,7 +147,7 @@ module _ (members : List ℕ) (ring : ℕ)
           covers = covers (current there) (token .highest .0) level-low held-low;
         }
 
-    newest-accepted : NewestAccepted members ring (accountOf founded) calls
+    newest-accepted : NewestAccepted members ring (accountOf structs founded) calls
     newest-accepted =
         record {
           place = due .place;
@@ -156,7 +156,7 @@ module _ (members : List ℕ) (ring : ℕ)
           accepts = λ frames deliveries enough room low. event-accepted there frame token (token-passed .read) (acceptable low) (due .place) frames deliveries enough room;
         }
 
-  pub never-refused-from : (calls : List Call) → CanAfter members ring (accountOf founded) [] calls → NewestAccepted members ring (accountOf founded) calls
+  pub never-refused-from : (calls : List Call) → CanAfter members ring (accountOf structs founded) [] calls → NewestAccepted members ring (accountOf structs founded) calls
   unfolding run
   never-refused-from calls h =
       newest-accepted calls (possible-after members ring founded [] calls h)

@@ -19,10 +19,11 @@ use Rattle.ordering.specs.inner.Station.{Station}
 use Rattle.ordering.specs.inner.Visit as visit
 use Rattle.ordering.specs.inner.History as cable
 use Rattle.ordering.specs.inner.Run as ordered
+use Rattle.record.specs.declared.Record.{Record}
 use Rattle.ring.specs.Calls.{Call, stationOf}
 use Rattle.ring.specs.History.{Event, writtenBy, isAccepted}
 use Rattle.ring.specs.Newest.{lastOf, newest}
-use Rattle.ring.specs.Run.{Ring, firstFrame, ringOf, step, run}
+use Rattle.ring.specs.Run.{Ring, firstFrame, ringOf, step, run, structs}
 use Rattle.ring.proofs.Going.{Possible}
 use Rattle.ring.proofs.View.{seenToken, tokenIn, stationSeen, eventSeen}
 use Rattle.ring.proofs.Law.{Law}
@@ -73,14 +74,14 @@ module _ (law : Law) (members : List ℕ) (ring : ℕ) (counted : membersCounted
   abbrev first : List ℕ
   first = firstFrame members ring
 
-  abbrev Match : Ring → ordered.Ring → Type 0
+  abbrev Match : Ring Record → ordered.Ring → Type 0
   Match s o = Matches law (length members) (ringOf members ring) first (ordered.foundingToken members first) (starts members ring counted follow ranged) s o
 
   abbrev MembersAre : ordered.Ring → Type 0
   MembersAre o = (p : ℕ) → p < length members → o .at p .members ≡ members
 
   -- the ring of a record, and its members
-  module _ (s : Ring) (o : ordered.Ring) (m : Match s o) (k : MembersAre o) (p : ℕ) (here : p < length members) where
+  module _ (s : Ring Record) (o : ordered.Ring) (m : Match s o) (k : MembersAre o) (p : ℕ) (here : p < length members) where
     pub ring-there : current (s .at p) .ring .0 ≡ ring
     ring-there = ap (λ (h : Header). h .ring .0) (m .rings p here)
 
@@ -96,10 +97,10 @@ module _ (law : Law) (members : List ℕ) (ring : ℕ) (counted : membersCounted
       by-place true = members-stay (o .at (ordered.stationOf d)) d ∙ k (ordered.stationOf d) here
       by-place false = k q h
 
-  abbrev Passes : Ring → Type 0
+  abbrev Passes : Ring Record → Type 0
   Passes s = tokenPasses ring members (newest first (s .history)) ≡ true
 
-  step-passes : (s : Ring) (o : ordered.Ring) (c : Call) → Match s o → MembersAre o → stationOf c < length members → Passes s → Passes (step s c)
+  step-passes : (s : Ring Record) (o : ordered.Ring) (c : Call) → Match s o → MembersAre o → stationOf c < length members → Passes s → Passes (step structs s c)
   unfolding step newest
   step-passes s o c m k here before = by-accepted (isAccepted (eventOf s c)) refl
     where
@@ -110,12 +111,12 @@ module _ (law : Law) (members : List ℕ) (ring : ℕ) (counted : membersCounted
           (last-passes (s .at (stationOf c)) c e))
       by-accepted false e = before
 
-  pub newest-passes : (s : Ring) (o : ordered.Ring) (cs : List Call) → Match s o → MembersAre o → Possible (length members) first s cs → Passes s → Passes (run s cs)
+  pub newest-passes : (s : Ring Record) (o : ordered.Ring) (cs : List Call) → Match s o → MembersAre o → Possible (length members) first s cs → Passes s → Passes (run structs s cs)
   unfolding run
   newest-passes s o [] m k can before = before
   newest-passes s o (c ∷ cs) m k can before =
       let t = step-law law (length members) (ringOf members ring) first (ordered.foundingToken members first) (starts members ring counted follow ranged) s o c m (can .0) (can .1) in
-      newest-passes (step s c) (ordered.step o (t .call)) cs (t .matches)
+      newest-passes (step structs s c) (ordered.step o (t .call)) cs (t .matches)
       (step-members o (t .call) k (subst (λ p. p < length members) (sym (t .place)) (can .0)))
       (can .2)
       (step-passes s o c m k (can .0) before)

@@ -9,8 +9,7 @@ use Rattle.ordering.specs.Lists.{firstOf}
 use Rattle.station.proofs.AcceptanceTrials.{opened}
 use Rattle.ring.specs.Calls.{Call}
 use Rattle.ring.specs.History.{writtenIn, isNumbered, reading, deliveryList, isTokenNumbered, anyOf, isAccepted}
-use Rattle.ring.specs.Run.{records, firstFrame, start, update, step, run}
-use Rattle.ring.specs.Demand.{overStructs}
+use Rattle.ring.specs.Run.{records, firstFrame, start, update, step, run, overStructs}
 use Rattle.ring.specs.Newest.{newest}
 use Rattle.ring.specs.Stations.{placeFrom}
 use Rattle.ring.specs.Script.{scriptMembers, scriptRing, allButToken, toOthers, handsOn, tick, ticks, scriptOf, script, scriptEvents, linesOf, printed, sameLines, readings, listsAre, acceptedAt, ScriptRuns}

@@ -19,8 +19,8 @@ use Rattle.ordering.specs.inner.Demand as demand
 use Rattle.ring.specs.Calls.{Call, stationOf, replyTo}
 use Rattle.ring.specs.History.{Event, Written, writtenIn, isNumbered, reading, isSafe, Received, deliveryList, handedBy, deliveries, DeliveredAt}
 use Rattle.record.specs.declared.Record.{Record}
-use Rattle.ring.specs.Run.{Ring, records, start, firstFrame, ringOf, run}
-use Rattle.ring.specs.Demand.{Account, accountOf, CanAfter, OneOrder, SafeFirst, Delivered, WholeRun, AcceptedIn, Round}
+use Rattle.ring.specs.Run.{Ring, records, start, firstFrame, ringOf, run, Account, accountOf, structs}
+use Rattle.ring.specs.Demand.{CanAfter, OneOrder, SafeFirst, Delivered, WholeRun, AcceptedIn, Round}
 use Rattle.ring.proofs.Going.{Possible, AcceptedIn as Accepts}
 use Rattle.ring.proofs.Law.{Rewrites, Law}
 use Rattle.ring.proofs.View.{messageIn, stationSeen, eventSeen}
@@ -58,17 +58,17 @@ module _ (law : Law) (members : List ℕ) (ring : ℕ)
   abbrev firstSeenToken : seen.Token
   firstSeenToken = ordered.foundingToken members first
 
-  abbrev Match : Ring → ordered.Ring → Type 0
+  abbrev Match : Ring Record → ordered.Ring → Type 0
   Match s o = Matches law size this first firstSeenToken (starts members ring counted follow ranged) s o
 
-  abbrev Follow : Ring → ordered.Ring → List Call → Type 0
+  abbrev Follow : Ring Record → ordered.Ring → List Call → Type 0
   Follow s o cs = Followed law size this first firstSeenToken (starts members ring counted follow ranged) s o cs
 
   abbrev account : Account
-  account = accountOf founded
+  account = accountOf structs founded
 
-  abbrev after : List Call → Ring
-  after calls = run (start founded) calls
+  abbrev after : List Call → Ring Record
+  after calls = run structs (start founded) calls
 
   abbrev Can : List Call → Type 0
   Can calls = Possible size first (start founded) calls
@@ -85,15 +85,16 @@ module _ (law : Law) (members : List ℕ) (ring : ℕ)
         cable = λ f h. on-start f h;
       }
     where
-      on-start : (f : List ℕ) → (f ≡ first) ⊎ ((place : ℕ) × Among (record { frame = f; place = place }) (writtenIn [])) → Rewrites f
-      on-start f (inl e) = subst Rewrites (sym e) (first-rewrites members ring counted follow ranged)
+      on-start : (f : List ℕ) → Among f (first ∷ []) ⊎ ((place : ℕ) × Among (record { frame = f; place = place }) (writtenIn [])) → Rewrites f
+      on-start f (inl (inl e)) = subst Rewrites (sym e) (first-rewrites members ring counted follow ranged)
+      on-start f (inl (inr none)) = absurd none
       on-start f (inr h) = absurd (h .1)
 
-  pub follow-on : (s : Ring) (o : ordered.Ring) (cs : List Call) → Match s o → Possible size first s cs → Follow s o cs
+  pub follow-on : (s : Ring Record) (o : ordered.Ring) (cs : List Call) → Match s o → Possible size first s cs → Follow s o cs
   follow-on s o cs m h = followed law size this first firstSeenToken (starts members ring counted follow ranged) s o cs m h
 
   -- the delivery list of a ring that is seen
-  list-seen : (s : Ring) (o : ordered.Ring) (p : ℕ) → Match s o → joined (texts (cable.handedAt p (o .history))) ≡ deliveryList p (s .history)
+  list-seen : (s : Ring Record) (o : ordered.Ring) (p : ℕ) → Match s o → joined (texts (cable.handedAt p (o .history))) ≡ deliveryList p (s .history)
   list-seen s o p m =
       ap (λ l. joined (texts (cable.handedAt p l))) (sym (m .history))
       ∙ ap joined (handed-seen this p (s .history))
@@ -114,7 +115,7 @@ module _ (law : Law) (members : List ℕ) (ring : ℕ)
     ahead : Follow (start founded) (ordered.start members) before
     ahead = follow-on (start founded) (ordered.start members) before match-start (possible-first size first (start founded) before (c ∷ later) can)
 
-    abbrev now : Ring
+    abbrev now : Ring Record
     now = after before
 
     abbrev nowSeen : ordered.Ring
@@ -159,14 +160,14 @@ module _ (law : Law) (members : List ℕ) (ring : ℕ)
   -- ---- three rounds later
 
   module _ (before one two three : List Call) (can : Can (before ++ (one ++ (two ++ three)))) where
-    abbrev s₀ : Ring
+    abbrev s₀ : Ring Record
     s₀ = after before
 
-    abbrev s₁ : Ring
-    s₁ = run s₀ one
+    abbrev s₁ : Ring Record
+    s₁ = run structs s₀ one
 
-    abbrev s₂ : Ring
-    s₂ = run s₁ two
+    abbrev s₂ : Ring Record
+    s₂ = run structs s₁ two
 
     can₁ : Possible size first s₀ (one ++ (two ++ three))
     can₁ = possible-rest size first (start founded) before (one ++ (two ++ three)) can
@@ -205,7 +206,7 @@ module _ (law : Law) (members : List ℕ) (ring : ℕ)
         (possible-join size firstSeenToken o₁ (f₂ .calls) (f₃ .calls) (f₂ .possible) (f₃ .possible)))
 
     -- the ring at the end, in parts
-    end : after (before ++ (one ++ (two ++ three))) ≡ run s₂ three
+    end : after (before ++ (one ++ (two ++ three))) ≡ run structs s₂ three
     end = run-join (start founded) before (one ++ (two ++ three)) ∙ run-join s₀ one (two ++ three) ∙ run-join s₁ two three
 
     end-seen : demand.after members first allCalls ≡ ordered.run o₂ (f₃ .calls)
@@ -238,17 +239,17 @@ module _ (law : Law) (members : List ℕ) (ring : ℕ)
           let g = got p n p< low high in
           -- the reading is the one that was received
           let same : g .first ≡ w =
-          some-inj (sym (reading-stays this s₀ (one ++ (two ++ three)) n (g .first) (g .is)) ∙ ap (λ (s : Ring). reading this (s .history) n) (sym (run-join (start founded) before (one ++ (two ++ three)))) ∙ is) in
+          some-inj (sym (reading-stays this s₀ (one ++ (two ++ three)) n (g .first) (g .is)) ∙ ap (λ (s : Ring Record). reading this (s .history) n) (sym (run-join (start founded) before (one ++ (two ++ three)))) ∙ is) in
           let first-is : writtenSeen this (g .first) ≡ d .1 =
           some-inj (sym (ap (firstSeen this) (g .is)) ∙ sym (reading-seen this (s₀ .history) n) ∙ ap (λ l. cable.reading l n) (f₀ .matches .history) ∙ d .2) in
           let m-is = message-seen this n (g .first .frame) (reading-numbered this (s₀ .history) n (g .first) (g .is)) .0 in
           let x-is : messageIn (g .first .frame) ≡ d .0 = message-inj (sym m-is ∙ ap (λ (v : cable.Written). v .frame) first-is ∙ d .3) in
           let there : Among (d .0) (cable.handedAt p (ordered.run o₂ (f₃ .calls) .history)) = subst (λ (o : ordered.Ring). Among (d .0) (cable.handedAt p (o .history))) end-seen (d .4) in
-          let texts-there : Among (d .0 .text) (deliveries p (run s₂ three .history)) =
-          subst (Among (d .0 .text)) (ap (λ l. texts (cable.handedAt p l)) (sym (f₃ .matches .history)) ∙ handed-seen this p (run s₂ three .history))
+          let texts-there : Among (d .0 .text) (deliveries p (run structs s₂ three .history)) =
+          subst (Among (d .0 .text)) (ap (λ l. texts (cable.handedAt p l)) (sym (f₃ .matches .history)) ∙ handed-seen this p (run structs s₂ three .history))
           (among-map (λ (x : seen.Message). x .text) (d .0) (cable.handedAt p (ordered.run o₂ (f₃ .calls) .history)) there) in
-          subst (λ (s : Ring). DeliveredAt p (s .history) (w .frame)) (sym end)
-          (subst (λ f. Among f (deliveries p (run s₂ three .history))) (sym (ap (λ (x : seen.Message). x .text) x-is) ∙ text-in (g .first .frame) ∙ ap (λ (v : Written). v .frame) same) texts-there)
+          subst (λ (s : Ring Record). DeliveredAt p (s .history) (w .frame)) (sym end)
+          (subst (λ f. Among f (deliveries p (run structs s₂ three .history))) (sym (ap (λ (x : seen.Message). x .text) x-is) ∙ text-in (g .first .frame) ∙ ap (λ (v : Written). v .frame) same) texts-there)
 
   delivered : (calls : List Call) → Can calls → Delivered members ring account calls
   delivered calls can before one two three e n low got r₁ r₂ r₃ p w p< is =

@@ -6,38 +6,16 @@ use mathlib.Core.List.{List, [], _∷_, _++_}
 use mathlib.Core.Logic.{_⊎_}
 use mathlib.Core.Option.{some}
 use lib.ListN.{length}
-use Rattle.record.specs.declared.Record.{Record}
-use Rattle.station.specs.Reply.{Reply}
 use Rattle.ordering.specs.Lists.{Among, OneBegins}
-use Rattle.ring.specs.Calls.{Call, post, arrival, resending, stationOf, replyTo}
+use Rattle.ring.specs.Calls.{Call, post, arrival, resending, stationOf}
 use Rattle.ring.specs.History.{Event, Written, OnCable, reading, isSafe, Received, deliveryList, handedBy, DeliveredAt, isAccepted}
-use Rattle.ring.specs.Run.{ringFoundable, records, firstFrame, ringOf, start, run}
-
--- what calls come to: the history after a list of them, and the reply to one more
-pub record Account : Type 0 where
-  pub history : List Call → List Event
-  pub reply : List Call → Call → Reply
-
--- of stations whose records are structs
-abbrev pub accountOf : (ℕ → Record) → Account
-accountOf founded =
-    record {
-      history = λ calls. run (start founded) calls .history;
-      reply = λ before c. replyTo (run (start founded) before .at (stationOf c)) c;
-    }
-
--- from the records that founding left
-abbrev pub overStructs : List ℕ → ℕ → Account
-overStructs members ring = accountOf (records members ring)
-
-abbrev pub eventAfter : Account → List Call → Call → Event
-eventAfter a before c = record { call = c; reply = a .reply before c }
+use Rattle.ring.specs.Run.{ringFoundable, firstFrame, ringOf, Account, eventAfter, overStructs}
 
 -- an arrival is handed a copy of a frame that is on the cable
-abbrev pub Handed : List ℕ → List Event → Call → Type 0
-Handed first history (post place service content) = Unit {0}
-Handed first history (arrival place frame frames deliveries) = OnCable first history frame
-Handed first history (resending place frames) = Unit {0}
+abbrev pub Handed : List (List ℕ) → List Event → Call → Type 0
+Handed firsts history (post place service content) = Unit {0}
+Handed firsts history (arrival place frame frames deliveries) = OnCable firsts history frame
+Handed firsts history (resending place frames) = Unit {0}
 
 module _ (members : List ℕ) (ring : ℕ) (a : Account) where
   -- the calls can be made after those before: each at one of the stations
@@ -45,7 +23,7 @@ module _ (members : List ℕ) (ring : ℕ) (a : Account) where
   CanAfter before [] = Unit {0}
   CanAfter before (c ∷ cs) =
       (stationOf c < length members)
-      × Handed (firstFrame members ring) (a .history before) c
+      × Handed (firstFrame members ring ∷ []) (a .history before) c
       × CanAfter (before ++ (c ∷ [])) cs
 
   abbrev pub IsReceived : List Call → ℕ → ℕ → Type 0

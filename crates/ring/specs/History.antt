@@ -45,9 +45,9 @@ unfoldable pub writtenIn : List Event → List Written
 writtenIn [] = []
 writtenIn (e ∷ earlier) = writtenIn earlier ++ map (writtenAt (place e)) (writtenBy e)
 
--- a frame is on the cable: founding's token, or written by a call
-abbrev pub OnCable : List ℕ → List Event → List ℕ → Type 0
-OnCable first history frame = (frame ≡ first) ⊎ ((place : ℕ) × Among (writtenAt place frame) (writtenIn history))
+-- a frame is on the cable: the first token of a ring that was founded, or written by a call
+abbrev pub OnCable : List (List ℕ) → List Event → List ℕ → Type 0
+OnCable firsts history frame = Among frame firsts ⊎ ((place : ℕ) × Among (writtenAt place frame) (writtenIn history))
 
 -- ---- reading n: the ring's first message frame with number n that a call wrote for the cable
 

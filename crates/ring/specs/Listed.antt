@@ -6,7 +6,8 @@ use mathlib.Core.List.{List, [], _∷_}
 use lib.ListN.{length}
 use Rattle.ring.specs.Calls.{Call}
 use Rattle.ring.specs.History.{Written, deliveries}
-use Rattle.ring.specs.Demand.{Account, IsReading, EveryRun}
+use Rattle.ring.specs.Run.{Account}
+use Rattle.ring.specs.Demand.{IsReading, EveryRun}
 
 module _ (members : List ℕ) (ring : ℕ) (a : Account) where
   -- these frames are the readings from n on

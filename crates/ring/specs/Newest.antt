@@ -10,8 +10,8 @@ use Rattle.frames.specs.Read.{readOf}
 use Rattle.station.specs.Reply.{mostFrames, mostDeliveries}
 use Rattle.ring.specs.Calls.{Call, arrival}
 use Rattle.ring.specs.History.{Event, writtenBy, isAccepted}
-use Rattle.ring.specs.Run.{firstFrame}
-use Rattle.ring.specs.Demand.{Account, eventAfter, EveryRun}
+use Rattle.ring.specs.Run.{firstFrame, Account, eventAfter}
+use Rattle.ring.specs.Demand.{EveryRun}
 
 -- the last of the frames
 abbrev pub lastOf : List ℕ → List (List ℕ) → List ℕ

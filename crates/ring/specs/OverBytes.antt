@@ -2,61 +2,38 @@
 -- [document 01, The station and its neighbours]
 use Prim.Native.Nat.{ℕ, _<_}
 use mathlib.Core.Path.{_≡_}
-use mathlib.Core.Bool.{true, cond}
-use mathlib.Core.List.{List, [], _∷_}
+use mathlib.Core.Bool.{true}
+use mathlib.Core.List.{List, []}
 use lib.ListN.{length, getD}
-use lib.Dec.{eqb}
+use Rattle.words.specs.Word.{Bytes}
 use Rattle.frames.specs.Layout.{shortestToken}
 use Rattle.record.specs.Layout.{recordSize}
-use Rattle.record.specs.Lent.{bytesWhole}
+use Rattle.record.specs.Lent.{lent, bytesWhole}
 use Rattle.station.specs.Reply.{Reply, doneOf}
 use Rattle.totem.specs.Over.{idsIn, stationAfter, foundOver, postOver, arriveOver, resendOver}
-use Rattle.ring.specs.Calls.{Call, post, arrival, resending, stationOf}
-use Rattle.ring.specs.History.{Event}
-use Rattle.ring.specs.Run.{ringFoundable, firstFrame}
-use Rattle.ring.specs.Demand.{Account, CanAfter, WholeRun}
+use Rattle.ring.specs.Calls.{Call, post, arrival, resending, replyTo}
+use Rattle.ring.specs.Run.{ringFoundable, firstFrame, Representation, Account, accountOf}
+use Rattle.ring.specs.Demand.{CanAfter, WholeRun}
 use Rattle.ring.specs.Listed.{ListedInOrder}
+use Rattle.ring.specs.AlwaysWhole.{RecordsWhole}
 use Rattle.ring.specs.Newest.{NewestAccepted}
 
--- what each call over C answers
-abbrev pub replyOver : List ℕ → Call → Reply
-replyOver s (post place service content) = postOver s service content
-replyOver s (arrival place frame frames deliveries) = arriveOver s frame (length frames) (length deliveries)
-replyOver s (resending place frames) = resendOver s (length frames)
-
--- and the station's bytes afterwards; a resending doesn't write them
-abbrev pub bytesAfter : List ℕ → Call → List ℕ
-bytesAfter s (post place service content) = stationAfter (doneOf (postOver s service content)) s
-bytesAfter s (arrival place frame frames deliveries) = stationAfter (doneOf (arriveOver s frame (length frames) (length deliveries))) s
-bytesAfter s (resending place frames) = s
-
-pub record RingOver : Type 0 where
-  pub at : ℕ → List ℕ
-  pub history : List Event
-
-unfoldable pub updateOver : ℕ → List ℕ → (ℕ → List ℕ) → ℕ → List ℕ
-updateOver p s at q = cond (eqb q p) s (at q)
-
-unfoldable pub stepOver : RingOver → Call → RingOver
-stepOver r c =
+-- stations whose records are bytes: a call finds the record in them and leaves them as the call over C does
+abbrev pub lentBytes : Representation (List ℕ)
+lentBytes =
     record {
-      at = updateOver (stationOf c) (bytesAfter (r .at (stationOf c)) c) (r .at);
-      history = record { call = c; reply = replyOver (r .at (stationOf c)) c } ∷ r .history;
+      replyOf = λ s c. replyTo (lent s) c;
+      leaves = λ s c. stationAfter (doneOf (replyTo (lent s) c)) s;
+      isWhole = bytesWhole;
     }
 
-unfoldable pub runOver : RingOver → List Call → RingOver
-runOver r [] = r
-runOver r (c ∷ cs) = runOver (stepOver r c) cs
-
-abbrev pub startOver : (ℕ → List ℕ) → RingOver
-startOver founded = record { at = founded; history = [] }
-
-abbrev pub accountOver : (ℕ → List ℕ) → Account
-accountOver founded =
-    record {
-      history = λ calls. runOver (startOver founded) calls .history;
-      reply = λ before c. replyOver (runOver (startOver founded) before .at (stationOf c)) c;
-    }
+-- each call there is the one over C; a resending doesn't write the bytes
+pub record CallsOver : Type 0 where
+  pub posts : (s : List ℕ) (place service : ℕ) (content : List ℕ) → lentBytes .replyOf s (post place service content) ≡ postOver s service content
+  pub arrivals : (s : List ℕ) (place : ℕ) (frame frames deliveries : List ℕ)
+      → lentBytes .replyOf s (arrival place frame frames deliveries) ≡ arriveOver s frame (length frames) (length deliveries)
+  pub resendings : (s : List ℕ) (place : ℕ) (frames : List ℕ) → lentBytes .replyOf s (resending place frames) ≡ resendOver s (length frames)
+  pub unwritten : (s : List ℕ) (place : ℕ) (frames : List ℕ) → Bytes s → lentBytes .leaves s (resending place frames) ≡ s
 
 -- founding over C at a place; `list` has the members, two bytes an id
 abbrev pub foundedOver : List ℕ → ℕ → (ℕ → List ℕ) → ℕ → Reply
@@ -73,7 +50,7 @@ pub record Founding (list : List ℕ) (ring : ℕ) (buffers : ℕ → List ℕ) 
 
 module _ (list : List ℕ) (ring : ℕ) (buffers : ℕ → List ℕ) where
   abbrev pub overBytes : Account
-  overBytes = accountOver (bytesFounded list ring buffers)
+  overBytes = accountOf lentBytes (bytesFounded list ring buffers)
 
   -- the first token on the cable is the one that founding over bytes writes too (`FirstOverBytes`)
   abbrev pub CanOver : List Call → Type 0
@@ -97,11 +74,7 @@ abbrev pub NeverRefusedOverBytes : Type 0
 NeverRefusedOverBytes = EveryRunOver NewestAccepted
 
 abbrev pub AlwaysWholeOverBytes : Type 0
-AlwaysWholeOverBytes = (list : List ℕ) (ring : ℕ) (buffers : ℕ → List ℕ)
-    → Founding list ring buffers
-    → (calls : List Call)
-    → CanOver list ring buffers calls
-    → (p : ℕ) → p < length (idsIn list) → bytesWhole (runOver (startOver (bytesFounded list ring buffers)) calls .at p) ≡ true
+AlwaysWholeOverBytes = EveryRunOver RecordsWhole
 
 -- every founding over bytes writes the ring's first token
 abbrev pub FirstOverBytes : Type 0

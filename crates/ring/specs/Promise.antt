@@ -3,7 +3,8 @@
 use Prim.Native.Nat.{ℕ}
 use mathlib.Core.List.{List, []}
 use Rattle.ring.specs.Calls.{Call}
-use Rattle.ring.specs.Demand.{overStructs, CanAfter, WholeRun}
+use Rattle.ring.specs.Run.{overStructs}
+use Rattle.ring.specs.Demand.{CanAfter, WholeRun}
 use Rattle.ring.specs.Listed.{ListedInOrder}
 use Rattle.ring.specs.Newest.{NewestAccepted}
 

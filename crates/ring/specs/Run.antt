@@ -9,16 +9,12 @@ use Rattle.frames.specs.Layout.{shortestToken}
 use Rattle.frames.specs.declared.header.Header.{Header}
 use Rattle.record.specs.Lent.{noRecord}
 use Rattle.record.specs.Members.{representative, membersCounted, idsFollow, ringInRange}
+use Rattle.record.specs.Whole.{whole}
 use Rattle.record.specs.declared.Record.{Record}
 use Rattle.station.specs.Reply.{Reply}
 use Rattle.station.specs.Found.{foundedOn}
 use Rattle.ring.specs.Calls.{Call, stationOf, replyTo}
 use Rattle.ring.specs.History.{Event}
-
--- the stations by place, and what was called
-pub record Ring : Type 0 where
-  pub at : ℕ → Record
-  pub history : List Event
 
 -- ---- founding: one record for each member, and the ring's first token on the cable
 
@@ -50,20 +46,58 @@ ringOf members ring = record { ring = record { 0 = ring }; representative = repr
 
 -- ---- a call at its place; the other stations stay as they are
 
-unfoldable pub update : ℕ → Record → (ℕ → Record) → ℕ → Record
-update p r at q = cond (eqb q p) r (at q)
+-- a representation of stations: what a call there replies, what it leaves, and whether the record is whole
+pub record Representation (S : Type 0) : Type 0 where
+  pub replyOf : S → Call → Reply
+  pub leaves : S → Call → S
+  pub isWhole : S → Bool
 
-unfoldable pub step : Ring → Call → Ring
-step s c =
-    record {
-      at = update (stationOf c) (replyTo (s .at (stationOf c)) c .rec) (s .at);
-      history = record { call = c; reply = replyTo (s .at (stationOf c)) c } ∷ s .history;
-    }
+-- the stations by place, and what was called
+pub record Ring (S : Type 0) : Type 0 where
+  pub at : ℕ → S
+  pub history : List Event
 
--- the ring after a list of calls, from those records on
-abbrev pub start : (ℕ → Record) → Ring
+abbrev pub start : {S : Type 0} → (ℕ → S) → Ring S
 start founded = record { at = founded; history = [] }
 
-unfoldable pub run : Ring → List Call → Ring
-run s [] = s
-run s (c ∷ cs) = run (step s c) cs
+unfoldable pub update : {S : Type 0} → ℕ → S → (ℕ → S) → ℕ → S
+update p s at q = cond (eqb q p) s (at q)
+
+-- what calls come to: the history after a list of them, the reply to one more, and whether the record at a place is whole
+pub record Account : Type 0 where
+  pub history : List Call → List Event
+  pub reply : List Call → Call → Reply
+  pub isWhole : List Call → ℕ → Bool
+
+module _ {S : Type 0} (stations : Representation S) where
+  unfoldable pub step : Ring S → Call → Ring S
+  step r c =
+      record {
+        at = update (stationOf c) (stations .leaves (r .at (stationOf c)) c) (r .at);
+        history = record { call = c; reply = stations .replyOf (r .at (stationOf c)) c } ∷ r .history;
+      }
+
+  -- the ring after a list of calls
+  unfoldable pub run : Ring S → List Call → Ring S
+  run r [] = r
+  run r (c ∷ cs) = run (step r c) cs
+
+  -- from those stations on
+  abbrev pub accountOf : (ℕ → S) → Account
+  accountOf founded =
+      record {
+        history = λ calls. run (start founded) calls .history;
+        reply = λ before c. stations .replyOf (run (start founded) before .at (stationOf c)) c;
+        isWhole = λ calls p. stations .isWhole (run (start founded) calls .at p);
+      }
+
+abbrev pub eventAfter : Account → List Call → Call → Event
+eventAfter a before c = record { call = c; reply = a .reply before c }
+
+-- ---- stations whose records are structs, from the records that founding left
+
+abbrev pub structs : Representation Record
+structs = record { replyOf = replyTo; leaves = λ r c. replyTo r c .rec; isWhole = whole }
+
+abbrev pub overStructs : List ℕ → ℕ → Account
+overStructs members ring = accountOf structs (records members ring)

@@ -12,10 +12,11 @@ use Rattle.frames.specs.Trials.{same}
 use Rattle.frames.specs.declared.reader.Answer.{Answer}
 use Rattle.frames.specs.declared.reader.Answer.the-variants.{Refused, IsMessage, IsToken}
 use Rattle.station.specs.Reply.{mostFrames, mostDeliveries}
+use Rattle.record.specs.declared.Record.{Record}
 use Rattle.ring.specs.Calls.{Call, post, arrival, replyTo}
 use Rattle.ring.specs.History.{Event, Written, place, writtenBy, reading, deliveryList, handedBy, isAccepted}
-use Rattle.ring.specs.Run.{Ring, records, firstFrame, ringOf, start, run}
-use Rattle.ring.specs.Demand.{overStructs, CanAfter}
+use Rattle.ring.specs.Run.{Ring, records, firstFrame, ringOf, start, run, structs, overStructs}
+use Rattle.ring.specs.Demand.{CanAfter}
 use Rattle.ring.specs.Newest.{newest}
 use Rattle.ring.specs.Stations.{placeFrom}
 
@@ -44,19 +45,19 @@ unfoldable pub toOthers : ℕ → List ℕ → ℕ → List (List ℕ) → List 
 toOthers p [] one frames = []
 toOthers p (x ∷ xs) one frames = cond (eqb p one) [] (map (arrives p) frames) ++ toOthers (suc p) xs one frames
 
-unfoldable pub handsOn : Ring → List ℕ → ℕ → List Call
+unfoldable pub handsOn : Ring Record → List ℕ → ℕ → List Call
 handsOn s token p =
     arrives p token
     ∷ toOthers 0 scriptMembers p (allButToken (writtenBy (record { call = arrives p token; reply = replyTo (s .at p) (arrives p token) })))
 
-unfoldable pub tick : Ring → List Call
+unfoldable pub tick : Ring Record → List Call
 tick s =
     let token = newest (firstFrame scriptMembers scriptRing) (s .history) in
     handsOn s token (placeFrom 0 scriptMembers (readOf token .token .addressee))
 
-unfoldable pub ticks : ℕ → Ring → List Call
+unfoldable pub ticks : ℕ → Ring Record → List Call
 ticks zero s = []
-ticks (suc n) s = let calls = tick s in calls ++ ticks n (run s calls)
+ticks (suc n) s = let calls = tick s in calls ++ ticks n (run structs s calls)
 
 -- ---- the script: p 1 1 up, p 0 0 ok, then five lines t
 
@@ -65,7 +66,7 @@ scriptPosts = post 1 1 (117 ∷ 112 ∷ []) ∷ post 0 0 (111 ∷ 107 ∷ []) �
 
 -- n lines t
 unfoldable pub scriptOf : ℕ → List Call
-scriptOf n = scriptPosts ++ ticks n (run (start (records scriptMembers scriptRing)) scriptPosts)
+scriptOf n = scriptPosts ++ ticks n (run structs (start (records scriptMembers scriptRing)) scriptPosts)
 
 unfoldable pub script : List Call
 script = scriptOf 5
