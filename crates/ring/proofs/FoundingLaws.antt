@@ -2,13 +2,14 @@
 use Prim.Native.Nat.{ℕ, zero, suc, _+_, _*_, _/_, _<_, _≤_}
 use mathlib.Core.Path.{_≡_, refl, sym, ap, _∙_}
 use mathlib.Core.Bool.{Bool, true, false, cond, and-false, false≢true}
-use mathlib.Core.List.{List, append-assoc}
+use mathlib.Core.List.{List, _++_, append-assoc}
+use native.Mathlib.Decide.{decLt}
 use native.Mathlib.Numerals.{add-one}
 use native.Mathlib.Omega.{arith}
 use borrow.Author.Tests.{eq-eqb, ne-eqb, le-leb, lt-leb, leb-true}
 use lib.Dec.{leb}
 use lib.ListN.{length, getD, take, drop, length-append, length-take, length-drop, drop-of-length-le}
-use lib.Seq.{take-at, drop-at, drop-drop}
+use lib.Seq.{take-all, take-at, drop-at, drop-drop}
 use Rattle.frames.specs.Layout.{shortestToken}
 use Rattle.record.specs.Layout.{recordSize}
 use Rattle.station.specs.Answer.{outcomeOf, isTaken}
@@ -27,7 +28,7 @@ use Rattle.station.specs.declared.answer.Answer.the-variants.{Refused}
 use Rattle.station.proofs.ReplyGood.{founded-either}
 use Rattle.totem.specs.Over.{idsIn, stationAfter, foundOver}
 use Rattle.ring.specs.Run.{ringFoundable}
-use Rattle.ring.specs.OverBytes.{bytesFounded, Founding}
+use Rattle.ring.specs.OverBytes.{foundedOver, bytesFounded, ExactBuffer, Founding}
 use Rattle.ring.specs.Stations.{recordAt, withRecord, recordsAfter, ringFounded, recordsFounded, foundedUpTo, ringAfter, FoundedForDemand}
 use Rattle.ring.proofs.LentRun.{refused-left}
 use Rattle.ring.proofs.PlaceLaws.{with-same}
@@ -46,21 +47,32 @@ own-at p records list ring token own e o records′ token′ h = rw e at h
 
 -- ---- the bytes that a founding leaves are as many as there were
 
-founded-size : (list : List ℕ) (ring : ℕ) (buffers : ℕ → List ℕ) (p : ℕ) → length (buffers p) ≡ recordSize → length (bytesFounded list ring buffers p) ≡ recordSize
-unfolding foundOver
-founded-size list ring buffers p long =
-    founded-either (λ reply. length (stationAfter (doneOf reply) (buffers p)) ≡ recordSize) noRecord
-    (λ why. rw (refused-left why) long) _ (idsIn list) (getD (idsIn list) p 0) ring
-    (λ f.
-    let size = record-restored (fresh (idsIn list) (getD (idsIn list) p 0) ring) (fresh-whole (idsIn list) (getD (idsIn list) p 0) ring f) .1 in
-    rw (length-append, size, drop-of-length-le (buffers p) {i = recordSize} (omega (arith, long))))
+module _ (list : List ℕ) (ring : ℕ) (buffers : ℕ → List ℕ) (rooms : ℕ → ℕ) (p : ℕ) (long : length (buffers p) ≡ recordSize) where
+  left-size : length (stationAfter (doneOf (foundedOver list ring buffers rooms p)) (buffers p)) ≡ recordSize
+  unfolding foundOver
+  left-size =
+      founded-either (λ reply. length (stationAfter (doneOf reply) (buffers p)) ≡ recordSize) noRecord
+      (λ why. rw (refused-left why) long) _ (idsIn list) (getD (idsIn list) p 0) ring
+      (λ f.
+      let size = record-restored (fresh (idsIn list) (getD (idsIn list) p 0) ring) (fresh-whole (idsIn list) (getD (idsIn list) p 0) ring f) .1 in
+      rw (length-append, size, drop-of-length-le (buffers p) {i = recordSize} (omega (arith, long))))
+
+  -- so they are all the record's
+  exact : bytesFounded list ring buffers rooms p ≡ stationAfter (doneOf (foundedOver list ring buffers rooms p)) (buffers p)
+  exact = take-all recordSize (stationAfter (doneOf (foundedOver list ring buffers rooms p)) (buffers p)) (omega (arith, left-size))
+
+pub exact-buffer : ExactBuffer
+exact-buffer = exact
+
+founded-size : (list : List ℕ) (ring : ℕ) (buffers : ℕ → List ℕ) (rooms : ℕ → ℕ) (p : ℕ) → length (buffers p) ≡ recordSize → length (bytesFounded list ring buffers rooms p) ≡ recordSize
+founded-size list ring buffers rooms p long = ap length (exact list ring buffers rooms p long) ∙ left-size list ring buffers rooms p long
 
 records-size : (list : List ℕ) (ring : ℕ) (records : List ℕ) (n : ℕ) → recordSize * n ≤ length records → length (recordsFounded list ring records n) ≡ recordSize * n
 unfolding recordsFounded
 records-size list ring records zero h = refl
 records-size list ring records (suc n) h =
     let here : length (recordAt n records) ≡ recordSize = simp (length-take, length-drop) (omega arith) in
-    rw (length-append, records-size list ring records n (omega arith), founded-size list ring (λ p. recordAt p records) n here) (omega arith)
+    rw (length-append, records-size list ring records n (omega arith), founded-size list ring (λ p. recordAt p records) (λ p. shortestToken) n here) (omega arith)
 
 -- ---- one member more
 
@@ -76,7 +88,8 @@ founding-goes list ring before i records records′ room e e′ =
     let there : drop (recordSize * i) records ≡ drop (recordSize * i) before = rw e (drop-at (recordsFounded list ring before i) _ (recordSize * i) size) in
     let behind : drop (recordSize * i + recordSize) records ≡ drop (recordSize * suc i) before = rw (← drop-drop recordSize (recordSize * i) records, there, drop-drop, next) in
     let front : take (recordSize * i) records ≡ recordsFounded list ring before i = rw e (take-at (recordsFounded list ring before i) _ (recordSize * i) size) in
-    e′ ∙ rw (add-one i, there, behind, front, append-assoc)
+    let here : length (recordAt i before) ≡ recordSize = simp (length-take, length-drop) (omega arith) in
+    e′ ∙ rw (add-one i, exact list ring (λ p. recordAt p before) (λ p. shortestToken) i here, there, behind, front, append-assoc)
 
 -- ---- a founding that is taken
 
@@ -172,17 +185,44 @@ taken-ring s list own ring room =
     (λ why t. absurd (false≢true (sym (refused-left why) ∙ t))) _ (idsIn list) own ring
     (λ f t. foundable-ring (idsIn list) own ring f)
 
-pub founded-for-demand : FoundedForDemand
-unfolding ringFounded
-founded-for-demand records list ring room = go (leb (recordSize * length (idsIn list)) (length records)) refl
-  where
-    go : (b : Bool) → leb (recordSize * length (idsIn list)) (length records) ≡ b
-        → isTaken (cond b (foundOver (recordAt 0 records) list (getD (idsIn list) 0 0) ring room) (refused noRecord NoRoom) .answer) ≡ true
-        → Founding list ring (λ p. recordAt p records)
-    go true e t =
-        let enough = leb-true (recordSize * length (idsIn list)) (length records) e in
+-- the records stand at their places
+record-there : (list : List ℕ) (ring : ℕ) (records : List ℕ) (n : ℕ) → recordSize * n ≤ length records → (rest : List ℕ) (p : ℕ) → p < n
+    → recordAt p (recordsFounded list ring records n ++ rest) ≡ bytesFounded list ring (λ q. recordAt q records) (λ q. shortestToken) p
+unfolding recordsFounded
+record-there list ring records zero h rest p below = absurd (omega arith)
+record-there list ring records (suc n) h rest p below =
+    let front = recordsFounded list ring records n in
+    let last = bytesFounded list ring (λ q. recordAt q records) (λ q. shortestToken) n in
+    let here : length (recordAt n records) ≡ recordSize = simp (length-take, length-drop) (omega arith) in
+    let size : length last ≡ recordSize = founded-size list ring (λ q. recordAt q records) (λ q. shortestToken) n here in
+    ap (recordAt p) (append-assoc front last rest)
+    ∙ elim (decLt p n) [
+      | yes lower ↦ record-there list ring records n (omega arith) (last ++ rest) p lower
+      | no h′ ↦
+          let e : p ≡ n = omega arith in
+          rw (e, drop-at front (last ++ rest) (recordSize * n) (records-size list ring records n (omega arith))) (take-at last rest recordSize size)
+    ]
+
+module _ (records list : List ℕ) (ring room : ℕ) where
+  -- with room for every record, or not
+  abbrev reply : Bool → Reply
+  reply b = cond b (foundOver (recordAt 0 records) list (getD (idsIn list) 0 0) ring room) (refused noRecord NoRoom)
+
+  by-room : (b : Bool) → leb (recordSize * length (idsIn list)) (length records) ≡ b
+      → isTaken (reply b .answer) ≡ true
+      → Founding list ring (λ p. recordAt p records) (λ p. shortestToken)
+      × ((p : ℕ) → p < length (idsIn list)
+      → recordAt p (cond (isTaken (reply b .answer)) (foundedUpTo list ring records (length (idsIn list))) records) ≡ bytesFounded list ring (λ q. recordAt q records) (λ q. shortestToken) p)
+  by-room true e t =
+      let enough = leb-true (recordSize * length (idsIn list)) (length records) e in (
         record {
           foundable = taken-ring (recordAt 0 records) list (getD (idsIn list) 0 0) ring room t;
-          long = λ p h. simp (length-take, length-drop) (omega arith);
-        }
-    go false e t = absurd (false≢true t)
+          large = record { long = λ p h. simp (length-take, length-drop) (omega arith); room = λ p h. omega arith };
+        },
+        λ p h. rw t (record-there list ring records (length (idsIn list)) enough (drop (recordSize * length (idsIn list)) records) p h),
+      )
+  by-room false e t = absurd (false≢true t)
+
+pub founded-for-demand : FoundedForDemand
+unfolding ringFounded ringAfter
+founded-for-demand records list ring room = by-room records list ring room (leb (recordSize * length (idsIn list)) (length records)) refl

@@ -27,9 +27,9 @@ pub mod AlwaysWhole
 pub mod Accepting
 pub mod NewestSeen
 pub mod Newest
-pub mod Promise
 pub mod LentRun
 pub mod OverBytes
+pub mod Promise
 pub mod Checked
 pub mod PlaceLaws
 pub mod MemberLaws

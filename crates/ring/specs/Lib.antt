@@ -5,7 +5,7 @@ pub mod Demand
 pub mod Listed
 pub mod AlwaysWhole
 pub mod Newest
-pub mod Promise
 pub mod OverBytes
+pub mod Promise
 pub mod Stations
 pub mod Script

@@ -1,11 +1,12 @@
 -- A ring of stations for programs: their records stand one after another in lent bytes, place p's from recordSize * p on. Each call at a
 -- place is the call over bytes on the record there. [document 01, The station and its neighbours; Trials: the bench]
-use Prim.Native.Nat.{ℕ, zero, suc, _+_, _*_, _-_}
+use Prim.Native.Nat.{ℕ, zero, suc, _+_, _*_, _-_, _<_}
 use mathlib.Core.Path.{_≡_}
 use mathlib.Core.Bool.{Bool, true, false, cond}
 use mathlib.Core.List.{List, [], _∷_, _++_}
 use lib.ListN.{length, getD, take, drop}
 use lib.Dec.{leb, eqb}
+use Rattle.frames.specs.Layout.{shortestToken}
 use Rattle.frames.specs.Read.{readOf}
 use Rattle.frames.specs.declared.reader.Answer.{Answer}
 use Rattle.frames.specs.declared.reader.Answer.the-variants.{Refused, IsMessage, IsToken}
@@ -53,7 +54,7 @@ ringFounded records list ring room =
 -- the records of the first n members, each as founding over bytes leaves it: those that demand 3 over bytes starts from
 unfoldable pub recordsFounded : List ℕ → ℕ → List ℕ → ℕ → List ℕ
 recordsFounded list ring records zero = []
-recordsFounded list ring records (suc n) = recordsFounded list ring records n ++ bytesFounded list ring (λ p. recordAt p records) n
+recordsFounded list ring records (suc n) = recordsFounded list ring records n ++ bytesFounded list ring (λ p. recordAt p records) (λ p. shortestToken) n
 
 -- the first n members have founded
 abbrev pub foundedUpTo : List ℕ → ℕ → List ℕ → ℕ → List ℕ
@@ -66,11 +67,13 @@ ringAfter records list ring room =
     (foundedUpTo list ring records (length (idsIn list)))
     records
 
--- a ring that was founded so is one of those that demand 3 over bytes speaks of
+-- a ring that was founded so is one of those that demand 3 over bytes speaks of, and begins with the records that it speaks of
 abbrev pub FoundedForDemand : Type 0
 FoundedForDemand = (records list : List ℕ) (ring room : ℕ)
     → isTaken (ringFounded records list ring room .answer) ≡ true
-    → Founding list ring (λ p. recordAt p records)
+    → Founding list ring (λ p. recordAt p records) (λ p. shortestToken)
+    × ((p : ℕ) → p < length (idsIn list)
+    → recordAt p (ringAfter records list ring room) ≡ bytesFounded list ring (λ q. recordAt q records) (λ q. shortestToken) p)
 
 -- ---- broadcasts reach one place: the message frames within the bytes that a call wrote, in the order written, one arrival each
 
