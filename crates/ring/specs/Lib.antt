@@ -8,4 +8,4 @@ pub mod Newest
 pub mod OverBytes
 pub mod Promise
 pub mod Stations
-pub mod Script
+pub mod trials

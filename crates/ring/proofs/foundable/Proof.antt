@@ -1,6 +1,6 @@
 use borrow.Author.Needs.{needs}
 use Rattle.ring.specs.Run.{ringFoundable}
-use Rattle.ring.proofs.Promise.{promised-when}
+use Rattle.ring.proofs.runs.Promise.{promised-when}
 use Rattle.ring.proofs.foundable.Statement.{statement}
 use Rattle.ring.proofs.foundable.Tie as tie
 

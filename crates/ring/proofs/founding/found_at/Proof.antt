@@ -6,8 +6,8 @@ use borrow.Author.Needs.{needs}
 use Rattle.station.specs.Answer.{outcomeOf}
 use Rattle.station.specs.Reply.{Reply, followedBy}
 use Rattle.totem.specs.Over.{foundOver}
-use Rattle.ring.proofs.PlaceLaws.{said-at, left-at}
-use Rattle.ring.proofs.FoundingLaws.{own-at}
+use Rattle.ring.proofs.places.PlaceLaws.{said-at, left-at}
+use Rattle.ring.proofs.places.FoundingLaws.{own-at}
 use Rattle.ring.proofs.founding.found_at.Statement.{statement}
 use Rattle.ring.proofs.founding.found_at.Tie as tie
 

@@ -6,7 +6,7 @@ use lib.ListN.{length}
 use borrow.Author.Needs.{needs}
 use Rattle.record.specs.Layout.{recordSize}
 use Rattle.ring.specs.Stations.{foundedUpTo}
-use Rattle.ring.proofs.FoundingLaws.{founding-goes}
+use Rattle.ring.proofs.places.FoundingLaws.{founding-goes}
 use Rattle.ring.proofs.founding.found_others.Statement.{statement}
 use Rattle.ring.proofs.founding.found_others.Tie as tie
 

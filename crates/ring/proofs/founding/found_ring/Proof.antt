@@ -1,6 +1,6 @@
 use native.Mathlib.Omega.{arith}
 use borrow.Author.Needs.{needs}
-use Rattle.ring.proofs.FoundingLaws.{ring-roomless, ring-refused, ring-founded}
+use Rattle.ring.proofs.places.FoundingLaws.{ring-roomless, ring-refused, ring-founded}
 use Rattle.ring.proofs.founding.found_ring.Statement.{statement}
 use Rattle.ring.proofs.founding.found_ring.Tie as tie
 

@@ -6,7 +6,7 @@ use borrow.Author.Needs.{needs}
 use Rattle.station.specs.Answer.{outcomeOf}
 use Rattle.station.specs.Reply.{Reply, followedBy}
 use Rattle.totem.specs.Over.{arriveOver}
-use Rattle.ring.proofs.PlaceLaws.{said-at, left-at}
+use Rattle.ring.proofs.places.PlaceLaws.{said-at, left-at}
 use Rattle.ring.proofs.stations.arrive_at.Statement.{statement}
 use Rattle.ring.proofs.stations.arrive_at.Tie as tie
 

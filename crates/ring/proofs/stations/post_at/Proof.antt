@@ -2,7 +2,7 @@ use mathlib.Core.Path.{_≡_}
 use borrow.Author.Needs.{needs}
 use Rattle.station.specs.Answer.{outcomeOf}
 use Rattle.totem.specs.Over.{postOver}
-use Rattle.ring.proofs.PlaceLaws.{said-at, left-at}
+use Rattle.ring.proofs.places.PlaceLaws.{said-at, left-at}
 use Rattle.ring.proofs.stations.post_at.Statement.{statement}
 use Rattle.ring.proofs.stations.post_at.Tie as tie
 
