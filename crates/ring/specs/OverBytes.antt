@@ -1,4 +1,4 @@
--- Demand 3 for records as bytes of the documented layout, as hosts in C lend them: the definitions over C, arrival's among them.
+-- Demand 3 for records as bytes of the documented layout, as hosts in C lend them.
 -- [document 01, The station and its neighbours]
 use Prim.Native.Nat.{ℕ, _<_, _≤_}
 use mathlib.Core.Path.{_≡_}
@@ -18,7 +18,7 @@ use Rattle.ring.specs.Listed.{ListedInOrder}
 use Rattle.ring.specs.AlwaysWhole.{RecordsWhole}
 use Rattle.ring.specs.Newest.{NewestAccepted}
 
--- stations whose records are bytes: a call finds the record in them and leaves them as the call over C does
+-- stations whose records are bytes: a call is made on the record in them
 abbrev pub lentBytes : Representation (List ℕ)
 lentBytes =
     record {
@@ -27,7 +27,7 @@ lentBytes =
       isWhole = bytesWhole;
     }
 
--- each call there is the one over C; a resending doesn't write the bytes
+-- these are the calls over C; a resending there doesn't write the bytes, and it leaves them as they are
 pub record CallsOver : Type 0 where
   pub posts : (s : List ℕ) (place service : ℕ) (content : List ℕ) → lentBytes .replyOf s (post place service content) ≡ postOver s service content
   pub arrivals : (s : List ℕ) (place : ℕ) (frame frames deliveries : List ℕ)
@@ -41,7 +41,7 @@ pub record CallsOver : Type 0 where
 abbrev pub foundedOver : List ℕ → ℕ → (ℕ → List ℕ) → (ℕ → ℕ) → ℕ → Reply
 foundedOver list ring buffers rooms p = foundOver (buffers p) list (getD (idsIn list) p 0) ring (rooms p)
 
--- the bytes of the record that founding left in each member's buffer: those that the host lends from then on
+-- the bytes of the record that founding left at the front of each member's buffer: those that the host lends from then on
 abbrev pub bytesFounded : List ℕ → ℕ → (ℕ → List ℕ) → (ℕ → ℕ) → ℕ → List ℕ
 bytesFounded list ring buffers rooms p = take recordSize (stationAfter (doneOf (foundedOver list ring buffers rooms p)) (buffers p))
 

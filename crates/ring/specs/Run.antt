@@ -44,9 +44,9 @@ OneFirst = (members : List ℕ) (ring : ℕ)
 abbrev pub ringOf : List ℕ → ℕ → Header
 ringOf members ring = record { ring = record { 0 = ring }; representative = representative members }
 
--- ---- a call at its place; the other stations stay as they are
+-- ---- a list of calls, whatever represents a station
 
--- a representation of stations: what a call there replies, what it leaves, and whether the record is whole
+-- what a call at a station replies, what it leaves, and whether the record is whole
 pub record Representation (S : Type 0) : Type 0 where
   pub replyOf : S → Call → Reply
   pub leaves : S → Call → S
@@ -57,19 +57,16 @@ pub record Ring (S : Type 0) : Type 0 where
   pub at : ℕ → S
   pub history : List Event
 
+-- before any call
 abbrev pub start : {S : Type 0} → (ℕ → S) → Ring S
 start founded = record { at = founded; history = [] }
 
+-- one station changes; the others stay as they are
 unfoldable pub update : {S : Type 0} → ℕ → S → (ℕ → S) → ℕ → S
 update p s at q = cond (eqb q p) s (at q)
 
--- what calls come to: the history after a list of them, the reply to one more, and whether the record at a place is whole
-pub record Account : Type 0 where
-  pub history : List Call → List Event
-  pub reply : List Call → Call → Reply
-  pub isWhole : List Call → ℕ → Bool
-
 module _ {S : Type 0} (stations : Representation S) where
+  -- a call at its station
   unfoldable pub step : Ring S → Call → Ring S
   step r c =
       record {
@@ -82,15 +79,24 @@ module _ {S : Type 0} (stations : Representation S) where
   run r [] = r
   run r (c ∷ cs) = run (step r c) cs
 
-  -- from those stations on
-  abbrev pub accountOf : (ℕ → S) → Account
-  accountOf founded =
-      record {
-        history = λ calls. run (start founded) calls .history;
-        reply = λ before c. stations .replyOf (run (start founded) before .at (stationOf c)) c;
-        isWhole = λ calls p. stations .isWhole (run (start founded) calls .at p);
-      }
+-- ---- what calls come to
 
+-- the history after a list of them, the reply to one more, and whether the record at a place is whole then
+pub record Account : Type 0 where
+  pub history : List Call → List Event
+  pub reply : List Call → Call → Reply
+  pub isWhole : List Call → ℕ → Bool
+
+-- from those stations on
+abbrev pub accountOf : {S : Type 0} → Representation S → (ℕ → S) → Account
+accountOf stations founded =
+    record {
+      history = λ calls. run stations (start founded) calls .history;
+      reply = λ before c. stations .replyOf (run stations (start founded) before .at (stationOf c)) c;
+      isWhole = λ calls p. stations .isWhole (run stations (start founded) calls .at p);
+    }
+
+-- one call more
 abbrev pub eventAfter : Account → List Call → Call → Event
 eventAfter a before c = record { call = c; reply = a .reply before c }
 
