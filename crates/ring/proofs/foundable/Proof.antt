@@ -6,7 +6,7 @@ use Rattle.ring.proofs.foundable.Tie as tie
 
 returns : tie.Need-returns
 unfolding ringFoundable
-returns c = promised-when _ _ _ cc
+returns c = promised-when _ _ _ (rw (c .is-number .ensures, c .before .ids-follow .ensures, c .before .before .members-counted .ensures))
 
 pub foundable-spec : {M : Type 1} → statement M
 foundable-spec =
