@@ -8,6 +8,7 @@ use crate::print;
 use crate::sizes;
 use crate::stations;
 use crate::stations::Ring;
+use frames::RingNumber;
 
 // Where the script stands: the ring, the output, and the number of the line.
 pub struct Bench {
@@ -33,7 +34,7 @@ fn no_place(b: Bench) -> Bench {
 
 fn found(b: Bench, number: u32, ids: &[u8], records: &mut [u8], out: &mut [u8]) -> Bench {
     let mut token = [0u8; frames::LONGEST_TOKEN];
-    let answer = ring::found_ring(records, ids, number, &mut token);
+    let answer = ring::found_ring(records, ids, RingNumber(number), &mut token);
     let r = b.ring;
     let o = b.output;
     if answer.refusal != 0 {

@@ -7,11 +7,11 @@ use mathlib.Core.Option.{none, some}
 use native.Mathlib.Omega.{arith}
 use lib.ListN.{length}
 use Rattle.ordering.specs.Lists.{Distinct}
-use Rattle.ordering.specs.Frame.{Token}
-use Rattle.ordering.specs.Station.{Station, heard}
-use Rattle.ordering.specs.Visit.{Choice, heldAfter, levelAfter, aruAfter, blockerAfter, tokenAfter, visited}
-use Rattle.ordering.specs.Log.{newest}
-use Rattle.ordering.specs.Run.{Ring, Call, quiet, hearing, visiting, resending, placeOf, entry, step, update, Possible}
+use Rattle.ordering.specs.inner.Frame.{Token}
+use Rattle.ordering.specs.inner.Station.{Station, heard}
+use Rattle.ordering.specs.inner.Visit.{Choice, heldAfter, levelAfter, aruAfter, blockerAfter, tokenAfter, visited}
+use Rattle.ordering.specs.inner.History.{newest}
+use Rattle.ordering.specs.inner.Run.{Ring, Call, quiet, hearing, visiting, resending, stationOf, event, step, update, Possible}
 use Rattle.ordering.proofs.Base.{some-same}
 use Rattle.ordering.proofs.Store.{level-up}
 use Rattle.ordering.proofs.Cable.{newest-same, newest-new}
@@ -58,10 +58,10 @@ visit-is s t c =
     mine (leaves id e d k a b) q = absurd (d (some-same e q))
     mine (says why a b) q = omega (arith, a, up)
 
--- the call's entry, and the newest token before and after
+-- the call's event, and the newest token before and after
 pub data Change (first : Token) (r r' : Ring) (c : Call) : Type 0 where
-  rests : entry (r .at (placeOf c)) c .forwarded ≡ none → newest first (r' .log) ≡ newest first (r .log) → ((q : ℕ) → Marks (r .at q) (r' .at q)) → Change first r r' c
-  turns : (p : ℕ) → placeOf c ≡ p → Visit (newest first (r .log)) (newest first (r' .log)) (r .at p) (r' .at p) → ((q : ℕ) → q ≢ p → r' .at q ≡ r .at q) → Change first r r' c
+  rests : event (r .at (stationOf c)) c .forwarded ≡ none → newest first (r' .history) ≡ newest first (r .history) → ((q : ℕ) → Marks (r .at q) (r' .at q)) → Change first r r' c
+  turns : (p : ℕ) → stationOf c ≡ p → Visit (newest first (r .history)) (newest first (r' .history)) (r .at p) (r' .at p) → ((q : ℕ) → q ≢ p → r' .at q ≡ r .at q) → Change first r r' c
 
 marks-update : (p : ℕ) (s' : Station) (at : ℕ → Station) → Marks (at p) s' → (q : ℕ) → Marks (at q) (update p s' at q)
 marks-update p s' at m = update-ind (λ q u. Marks (at q) u) p s' at m (λ q d. same-marks (at q))
@@ -69,15 +69,15 @@ marks-update p s' at m = update-ind (λ q u. Marks (at q) u) p s' at m (λ q d. 
 pub change-is : {members : List ℕ} {first : Token} {r : Ring} → Distinct members → Inv members first r → (c : Call) → Possible (length members) first r c → Change first r (step r c) c
 unfolding step
 change-is {members} {first} {r} distinct i (quiet p) k =
-    rests refl (newest-same first (entry (r .at p) (quiet p)) (r .log) refl) (marks-update p (r .at p) (r .at) (same-marks (r .at p)))
+    rests refl (newest-same first (event (r .at p) (quiet p)) (r .history) refl) (marks-update p (r .at p) (r .at) (same-marks (r .at p)))
 change-is {members} {first} {r} distinct i (hearing p x) k =
-    rests refl (newest-same first (entry (r .at p) (hearing p x)) (r .log) refl) (marks-update p (heard (r .at p) x) (r .at) (heard-marks (r .at p) x))
+    rests refl (newest-same first (event (r .at p) (hearing p x)) (r .history) refl) (marks-update p (heard (r .at p) x) (r .at) (heard-marks (r .at p) x))
 change-is {members} {first} {r} distinct i (resending p) k =
-    rests refl (newest-same first (entry (r .at p) (resending p)) (r .log) refl) (marks-update p (r .at p) (r .at) (same-marks (r .at p)))
+    rests refl (newest-same first (event (r .at p) (resending p)) (r .history) refl) (marks-update p (r .at p) (r .at) (same-marks (r .at p)))
 change-is {members} {first} {r} distinct i (visiting p t c) k =
     turns p refl
-    (subst (λ u. Visit u (newest first (entry (r .at p) (visiting p t c) ∷ r .log)) (r .at p) (update p (visited (r .at p) t c) (r .at) p))
+    (subst (λ u. Visit u (newest first (event (r .at p) (visiting p t c) ∷ r .history)) (r .at p) (update p (visited (r .at p) t c) (r .at) p))
     (sym (is-newest distinct i p (k .0) t c (accepts (length members) p t c k)))
-    (subst (λ u. Visit t u (r .at p) (update p (visited (r .at p) t c) (r .at) p)) (sym (newest-new first (entry (r .at p) (visiting p t c)) (r .log) (tokenAfter (r .at p) t c) refl))
+    (subst (λ u. Visit t u (r .at p) (update p (visited (r .at p) t c) (r .at) p)) (sym (newest-new first (event (r .at p) (visiting p t c)) (r .history) (tokenAfter (r .at p) t c) refl))
     (subst (λ u. Visit t (tokenAfter (r .at p) t c) (r .at p) u) (sym (update-here p (visited (r .at p) t c) (r .at))) (visit-is (r .at p) t c))))
     (λ q d. update-other p (visited (r .at p) t c) (r .at) q d)

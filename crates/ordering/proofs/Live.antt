@@ -8,9 +8,9 @@ use native.Mathlib.Decide.{ℕ-discrete}
 use native.Mathlib.Omega.{arith}
 use lib.ListN.{length, getD}
 use Rattle.ordering.specs.Lists.{Distinct}
-use Rattle.ordering.specs.Frame.{Token}
-use Rattle.ordering.specs.Log.{Written, newest, reading, KeptAt, Received}
-use Rattle.ordering.specs.Run.{Ring, Call, quiet, hearing, visiting, resending, placeOf, entry, step, run, Possible, AllPossible, AcceptedIn}
+use Rattle.ordering.specs.inner.Frame.{Token}
+use Rattle.ordering.specs.inner.History.{Written, newest, reading, KeptAt, Received}
+use Rattle.ordering.specs.inner.Run.{Ring, Call, quiet, hearing, visiting, resending, stationOf, event, step, run, Possible, AllPossible, AcceptedIn}
 use Rattle.ordering.proofs.Base.{none-some, leb-cases}
 use Rattle.ordering.proofs.Cable.{reading-found, reading-stays}
 use Rattle.ordering.proofs.Local.{Had}
@@ -20,15 +20,15 @@ use Rattle.ordering.proofs.Change.{Change, rests, turns, change-is}
 
 -- ---- received, so had
 
-received-had : {members : List ℕ} {first : Token} {r : Ring} (i : Inv members first r) (p n : ℕ) → Received p n (r .log) → Had (r .at p) n
+received-had : {members : List ℕ} {first : Token} {r : Ring} (i : Inv members first r) (p n : ℕ) → Received p n (r .history) → Had (r .at p) n
 received-had {r = r} i p n k =
-    let f = reading-found (r .log) n (k .first) (k .is) in
+    let f = reading-found (r .history) n (k .first) (k .is) in
     ⊎-elim
-    (λ q. subst (λ m. Had (r .at p) m) (f .number) (i .each p .kept (f .content) (subst (λ g. KeptAt p g (r .log)) (f .frame) q)))
+    (λ q. subst (λ m. Had (r .at p) m) (f .number) (i .each p .kept (f .content) (subst (λ g. KeptAt p g (r .history)) (f .frame) q)))
     (λ q. i .each p .wrote n (k .first) (k .is) q)
     (k .how)
 
-pub level-reached : {members : List ℕ} {first : Token} {r : Ring} (i : Inv members first r) (p m : ℕ) → ((n : ℕ) → 1 ≤ n → n ≤ m → Received p n (r .log)) → m ≤ r .at p .level
+pub level-reached : {members : List ℕ} {first : Token} {r : Ring} (i : Inv members first r) (p m : ℕ) → ((n : ℕ) → 1 ≤ n → n ≤ m → Received p n (r .history)) → m ≤ r .at p .level
 level-reached {r = r} i p m k =
     ⊎-elim
     (λ w. w .1)
@@ -41,12 +41,12 @@ level-reached {r = r} i p m k =
 
 -- ---- a reading stays
 
-pub reading-run : (cs : List Call) (r : Ring) (n : ℕ) (w : Written) → reading (r .log) n ≡ some w → reading (run r cs .log) n ≡ some w
+pub reading-run : (cs : List Call) (r : Ring) (n : ℕ) (w : Written) → reading (r .history) n ≡ some w → reading (run r cs .history) n ≡ some w
 unfolding run step
 reading-run [] r n w h = h
-reading-run (c ∷ cs) r n w h = reading-run cs (step r c) n w (reading-stays (entry (r .at (placeOf c)) c) (r .log) n w h)
+reading-run (c ∷ cs) r n w h = reading-run cs (step r c) n w (reading-stays (event (r .at (stationOf c)) c) (r .history) n w h)
 
-possible-place : (size : ℕ) (first : Token) (r : Ring) (c : Call) → Possible size first r c → placeOf c < size
+possible-place : (size : ℕ) (first : Token) (r : Ring) (c : Call) → Possible size first r c → stationOf c < size
 possible-place size first r (quiet p) k = k
 possible-place size first r (hearing p x) k = k .0
 possible-place size first r (visiting p t c) k = k .0
@@ -61,7 +61,7 @@ module _ (members : List ℕ) (first : Token) where
   abbrev pub Brings : (Ring → Type 0) → (Ring → Type 0) → ℕ → Type 0
   Brings P Q p =
       (r : Ring) (c : Call) (t : Token) → Inv members first r → Possible (length members) first r c
-      → placeOf c ≡ p → entry (r .at (placeOf c)) c .forwarded ≡ some t → P r → Q (step r c)
+      → stationOf c ≡ p → event (r .at (stationOf c)) c .forwarded ≡ some t → P r → Q (step r c)
 
 module _ {members : List ℕ} {first : Token} (distinct : Distinct members) where
   pub kept-run : (P : Ring → Type 0) → Kept members first P → (cs : List Call) (r : Ring) → AllPossible (length members) first r cs → Inv members first r → P r → P (run r cs)
@@ -87,14 +87,14 @@ High members m r = (q : ℕ) → q < length members → m ≤ r .at q .level
 module _ (members : List ℕ) (first : Token) (m : ℕ) where
   -- so is the newest aru, or v blocks
   abbrev pub Blocked : ℕ → Ring → Type 0
-  Blocked v r = High members m r × ((m ≤ newest first (r .log) .aru) ⊎ (newest first (r .log) .blocker ≡ some (getD members v 0)))
+  Blocked v r = High members m r × ((m ≤ newest first (r .history) .aru) ⊎ (newest first (r .history) .blocker ≡ some (getD members v 0)))
 
   abbrev pub Said : Ring → Type 0
-  Said r = High members m r × (m ≤ newest first (r .log) .aru)
+  Said r = High members m r × (m ≤ newest first (r .history) .aru)
 
   -- and the aru that p forwarded last
   abbrev pub Known : ℕ → Ring → Type 0
-  Known p r = High members m r × (m ≤ newest first (r .log) .aru) × (m ≤ r .at p .aru)
+  Known p r = High members m r × (m ≤ newest first (r .history) .aru) × (m ≤ r .at p .aru)
 
 abbrev pub Safe : ℕ → ℕ → Ring → Type 0
 Safe m p r = m ≤ r .at p .safe
@@ -112,14 +112,14 @@ module _ {members : List ℕ} {first : Token} (distinct : Distinct members) (m :
           ]
 
   -- the level where the call is
-  high-here : (r : Ring) (c : Call) (p : ℕ) → Inv members first r → Possible (length members) first r c → placeOf c ≡ p → High members m r → m ≤ r .at p .level
+  high-here : (r : Ring) (c : Call) (p : ℕ) → Inv members first r → Possible (length members) first r c → stationOf c ≡ p → High members m r → m ≤ r .at p .level
   high-here r c p i k e h = h p (omega (arith, possible-place (length members) first r c k))
 
   pub blocked-kept : (v : ℕ) → Kept members first (Blocked members first m v)
   blocked-kept v r c i k h = (high-kept r c i k (h .0), go (change-is distinct i c k) (h .1))
     where
-      go : Change first r (step r c) c → (m ≤ newest first (r .log) .aru) ⊎ (newest first (r .log) .blocker ≡ some (getD members v 0))
-          → (m ≤ newest first (step r c .log) .aru) ⊎ (newest first (step r c .log) .blocker ≡ some (getD members v 0))
+      go : Change first r (step r c) c → (m ≤ newest first (r .history) .aru) ⊎ (newest first (r .history) .blocker ≡ some (getD members v 0))
+          → (m ≤ newest first (step r c .history) .aru) ⊎ (newest first (step r c .history) .blocker ≡ some (getD members v 0))
       go (rests f n marks) (inl x) = inl (omega (arith, ap (λ t. t .aru) n))
       go (rests f n marks) (inr x) = inr (ap (λ t. t .blocker) n ∙ x)
       go (turns p e w other) (inl x) = inl (⊎-elim (λ z. omega arith) (λ z. omega (arith, high-here r c p i k e (h .0))) (w .aru))
@@ -128,7 +128,7 @@ module _ {members : List ℕ} {first : Token} (distinct : Distinct members) (m :
   pub said-kept : Kept members first (Said members first m)
   said-kept r c i k h = (high-kept r c i k (h .0), go (change-is distinct i c k))
     where
-      go : Change first r (step r c) c → m ≤ newest first (step r c .log) .aru
+      go : Change first r (step r c) c → m ≤ newest first (step r c .history) .aru
       go (rests f n marks) = omega (arith, ap (λ t. t .aru) n, h .1)
       go (turns p e w other) = ⊎-elim (λ z. omega (arith, h .1)) (λ z. omega (arith, high-here r c p i k e (h .0))) (w .aru)
 
@@ -136,7 +136,7 @@ module _ {members : List ℕ} {first : Token} (distinct : Distinct members) (m :
   pub said-brings : (v : ℕ) → v < length members → Brings members first (Blocked members first m v) (Said members first m) v
   said-brings v hv r c t i k e f h = (high-kept r c i k (h .0), go (change-is distinct i c k) (h .1))
     where
-      go : Change first r (step r c) c → (m ≤ newest first (r .log) .aru) ⊎ (newest first (r .log) .blocker ≡ some (getD members v 0)) → m ≤ newest first (step r c .log) .aru
+      go : Change first r (step r c) c → (m ≤ newest first (r .history) .aru) ⊎ (newest first (r .history) .blocker ≡ some (getD members v 0)) → m ≤ newest first (step r c .history) .aru
       go (rests g n marks) x = absurd (none-some (sym g ∙ f))
       go (turns p q w other) (inl x) = ⊎-elim (λ z. omega arith) (λ z. omega (arith, high-here r c p i k q (h .0))) (w .aru)
       go (turns p q w other) (inr x) =
@@ -148,7 +148,7 @@ module _ {members : List ℕ} {first : Token} (distinct : Distinct members) (m :
       let s = said-kept r c i k (h .0, h .1) in
       (s .0, s .1, go (s .1) (change-is distinct i c k))
     where
-      go : m ≤ newest first (step r c .log) .aru → Change first r (step r c) c → m ≤ step r c .at p .aru
+      go : m ≤ newest first (step r c .history) .aru → Change first r (step r c) c → m ≤ step r c .at p .aru
       go a (rests f n marks) = omega (arith, marks p .aru, h .2)
       go a (turns q e w other) =
           elim (ℕ-discrete p q) [
@@ -161,7 +161,7 @@ module _ {members : List ℕ} {first : Token} (distinct : Distinct members) (m :
       let s = said-kept r c i k h in
       (s .0, s .1, go (s .1) (change-is distinct i c k))
     where
-      go : m ≤ newest first (step r c .log) .aru → Change first r (step r c) c → m ≤ step r c .at p .aru
+      go : m ≤ newest first (step r c .history) .aru → Change first r (step r c) c → m ≤ step r c .at p .aru
       go a (rests g n marks) = absurd (none-some (sym g ∙ f))
       go a (turns q z w other) = subst (λ j. m ≤ step r c .at j .aru) (sym z ∙ e) (omega (arith, w .aru-is))
 
@@ -179,7 +179,7 @@ module _ {members : List ℕ} {first : Token} (distinct : Distinct members) (m :
   pub safe-brings : (p : ℕ) → Brings members first (Known members first m p) (Safe m p) p
   safe-brings p r c t i k e f h = go (said-kept r c i k (h .0, h .1) .1) (change-is distinct i c k)
     where
-      go : m ≤ newest first (step r c .log) .aru → Change first r (step r c) c → m ≤ step r c .at p .safe
+      go : m ≤ newest first (step r c .history) .aru → Change first r (step r c) c → m ≤ step r c .at p .safe
       go a (rests g n marks) = absurd (none-some (sym g ∙ f))
       go a (turns q z w other) =
           let b : m ≤ r .at q .aru = subst (λ j. m ≤ r .at j .aru) (sym e ∙ z) (h .2) in

@@ -1,4 +1,4 @@
--- What holds of one station, given the readings and the log; it stays when a call leaves the station as it is.
+-- What holds of one station, given the readings and the history; it stays when a call leaves the station as it is.
 use Prim.Native.Nat.{ℕ, suc, _+_, _-_, _<_, _≤_}
 use mathlib.Core.Path.{_≡_, refl, sym, _∙_}
 use mathlib.Core.Logic.{_≢_, _⊎_, ⊎-elim}
@@ -7,10 +7,10 @@ use mathlib.Core.Option.{none, some}
 use native.Mathlib.Omega.{arith}
 use lib.ListN.{length, getD, take}
 use Rattle.ordering.specs.Lists.{Begins, firstOf}
-use Rattle.ordering.specs.Frame.{Message, Token, message, token}
-use Rattle.ordering.specs.Station.{Store, Station, window, levelOf, due}
-use Rattle.ordering.specs.Log.{Entry, Written, writtenIn, OnCable, reading, KeptAt, Received, handedAt}
-use Rattle.ordering.specs.Run.{fresh}
+use Rattle.ordering.specs.inner.Frame.{Message, Token, message, token}
+use Rattle.ordering.specs.inner.Station.{Store, Station, window, levelOf, due}
+use Rattle.ordering.specs.inner.History.{Event, Written, writtenIn, OnCable, reading, KeptAt, Received, handedAt}
+use Rattle.ordering.specs.inner.Run.{fresh}
 use Rattle.ordering.proofs.Base.{none-some, leb-cases}
 use Rattle.ordering.proofs.Store.{Rise, rise-is, due-few, due-safe, due-take}
 use Rattle.ordering.proofs.Cable.{cable-stays, received-stays, reading-cases, handed-other}
@@ -20,7 +20,7 @@ use Rattle.ordering.proofs.Readings.{Holds, holds-top, holds-at, longer
 abbrev pub Had : Station → ℕ → Type 0
 Had s n = (n ≤ s .level) ⊎ ((x : Message) × (s .held n ≡ some x))
 
-pub record Local (members : List ℕ) (first : Token) (xs : List Message) (log : List Entry) (p : ℕ) (s : Station) : Type 0 where
+pub record Local (members : List ℕ) (first : Token) (xs : List Message) (history : List Event) (p : ℕ) (s : Station) : Type 0 where
   pub members-are : s .members ≡ members
   pub own-is : s .own ≡ getD members p 0
   pub reads : (n : ℕ) (x : Message) → s .held n ≡ some x → Holds xs n x
@@ -32,24 +32,24 @@ pub record Local (members : List ℕ) (first : Token) (xs : List Message) (log :
   pub filled : (k : ℕ) → s .safe < k → k ≤ s .level → (x : Message) × (s .held k ≡ some x)
   pub gap : s .held (suc (s .level)) ≡ none
   -- what it has is received there
-  pub had : (n : ℕ) → 1 ≤ n → n ≤ s .level → Received p n log
-  pub holds : (n : ℕ) (x : Message) → s .held n ≡ some x → Received p n log
+  pub had : (n : ℕ) → 1 ≤ n → n ≤ s .level → Received p n history
+  pub holds : (n : ℕ) (x : Message) → s .held n ≡ some x → Received p n history
   -- and the other way round
-  pub kept : (x : Message) → KeptAt p (message x) log → Had s (x .number)
-  pub wrote : (n : ℕ) (w : Written) → reading log n ≡ some w → w .place ≡ p → Had s n
-  pub handed : handedAt p log ≡ take (s .delivered) xs
-  pub leave : (t : Token) → s .leave ≡ some t → OnCable first log (token t)
+  pub kept : (x : Message) → KeptAt p (message x) history → Had s (x .number)
+  pub wrote : (n : ℕ) (w : Written) → reading history n ≡ some w → w .place ≡ p → Had s n
+  pub handed : handedAt p history ≡ take (s .delivered) xs
+  pub resendable : (t : Token) → s .resendable ≡ some t → OnCable first history (token t)
 
 -- ---- the station stays as it is
 
-pub local-idle : {members : List ℕ} {first : Token} {xs : List Message} {log : List Entry} {p : ℕ} {s : Station} (ys : List Message) (e : Entry)
-    → Local members first xs log p s
+pub local-idle : {members : List ℕ} {first : Token} {xs : List Message} {history : List Event} {p : ℕ} {s : Station} (ys : List Message) (e : Event)
+    → Local members first xs history p s
     → Begins xs ys
-    → ((x : Message) → KeptAt p (message x) (e ∷ log) → KeptAt p (message x) log)
-    → ((n : ℕ) (w : Written) → reading (e ∷ log) n ≡ some w → w .place ≡ p → reading log n ≡ some w)
-    → handedAt p (e ∷ log) ≡ handedAt p log
-    → Local members first ys (e ∷ log) p s
-local-idle {members} {first} {xs} {log} {p} {s} ys e l more calm same handed =
+    → ((x : Message) → KeptAt p (message x) (e ∷ history) → KeptAt p (message x) history)
+    → ((n : ℕ) (w : Written) → reading (e ∷ history) n ≡ some w → w .place ≡ p → reading history n ≡ some w)
+    → handedAt p (e ∷ history) ≡ handedAt p history
+    → Local members first ys (e ∷ history) p s
+local-idle {members} {first} {xs} {history} {p} {s} ys e l more calm same handed =
     record {
       members-are = l .members-are;
       own-is = l .own-is;
@@ -61,25 +61,25 @@ local-idle {members} {first} {xs} {log} {p} {s} ys e l more calm same handed =
       aru-level = l .aru-level;
       filled = l .filled;
       gap = l .gap;
-      had = λ n a b. received-stays e log n p (l .had n a b);
-      holds = λ n x h. received-stays e log n p (l .holds n x h);
+      had = λ n a b. received-stays e history n p (l .had n a b);
+      holds = λ n x h. received-stays e history n p (l .holds n x h);
       kept = λ x h. l .kept x (calm x h);
       wrote = λ n w h k. l .wrote n w (same n w h k) k;
       handed = handed ∙ l .handed ∙ sym (longer-take xs ys more (s .delivered) (omega (arith, l .delivered-level, l .level-top)));
-      leave = λ t h. cable-stays first e log (token t) (l .leave t h);
+      resendable = λ t h. cable-stays first e history (token t) (l .resendable t h);
     }
 
 -- a call at another place
-pub local-other : {members : List ℕ} {first : Token} {xs : List Message} {log : List Entry} {p : ℕ} {s : Station} (ys : List Message) (e : Entry)
-    → Local members first xs log p s
+pub local-other : {members : List ℕ} {first : Token} {xs : List Message} {history : List Event} {p : ℕ} {s : Station} (ys : List Message) (e : Event)
+    → Local members first xs history p s
     → Begins xs ys
     → e .place ≢ p
-    → Local members first ys (e ∷ log) p s
-local-other {log = log} {p} ys e l more d =
+    → Local members first ys (e ∷ history) p s
+local-other {history = history} {p} ys e l more d =
     local-idle ys e l more
     (λ x h. ⊎-elim (λ k. absurd (d (k .0))) (λ k. k) h)
-    (λ n w h k. ⊎-elim (λ q. q) (λ q. absurd (d (sym (q .1) ∙ k))) (reading-cases e log n w h))
-    (handed-other p e log d)
+    (λ n w h k. ⊎-elim (λ q. q) (λ q. absurd (d (sym (q .1) ∙ k))) (reading-cases e history n w h))
+    (handed-other p e history d)
 
 -- ---- the station holds more: how far its level rises and what it delivers
 
@@ -92,15 +92,15 @@ pub record Climbed (ys : List Message) (s : Station) (h : Store) (safe : ℕ) : 
   pub handed : take (s .delivered) ys ++ due h safe (levelOf h (s .level) - s .delivered) (s .delivered)
       ≡ take (s .delivered + length (due h safe (levelOf h (s .level) - s .delivered) (s .delivered))) ys
 
-pub climbed : {members : List ℕ} {first : Token} {xs : List Message} {log : List Entry} {p : ℕ} {s : Station} (ys : List Message) (h : Store) (safe : ℕ)
-    → Local members first xs log p s
+pub climbed : {members : List ℕ} {first : Token} {xs : List Message} {history : List Event} {p : ℕ} {s : Station} (ys : List Message) (h : Store) (safe : ℕ)
+    → Local members first xs history p s
     → Begins xs ys
     → ((n : ℕ) (x : Message) → h n ≡ some x → Holds ys n x)
     → ((n : ℕ) (x : Message) → h n ≡ some x → n ≤ s .safe + window)
     → ((n : ℕ) (x : Message) → s .held n ≡ some x → (y : Message) × (h n ≡ some y))
     → safe ≤ levelOf h (s .level)
     → Climbed ys s h safe
-climbed {members} {first} {xs} {log} {p} {s} ys h safe l more reads near keeps low =
+climbed {members} {first} {xs} {history} {p} {s} ys h safe l more reads near keeps low =
     record {
       rise = up;
       filled = filled';
@@ -153,5 +153,5 @@ local-start members first p =
       kept = λ x h. absurd h;
       wrote = λ n w e k. absurd (none-some e);
       handed = refl;
-      leave = λ t e. absurd (none-some e);
+      resendable = λ t e. absurd (none-some e);
     }

@@ -6,33 +6,33 @@ use mathlib.Core.Option.{some}
 use native.Mathlib.Omega.{arith}
 use lib.ListN.{length, getD}
 use Rattle.ordering.specs.Lists.{Distinct}
-use Rattle.ordering.specs.Frame.{Message, Token, message, token}
-use Rattle.ordering.specs.Log.{OnCable, newest}
-use Rattle.ordering.specs.Run.{Ring, Call, firstToken}
-use Rattle.ordering.specs.Demand.{Allows, after}
+use Rattle.ordering.specs.inner.Frame.{Message, Token, message, token}
+use Rattle.ordering.specs.inner.History.{OnCable, newest}
+use Rattle.ordering.specs.inner.Run.{Ring, Call, foundingToken}
+use Rattle.ordering.specs.inner.Demand.{Allows, after}
 use Rattle.ordering.proofs.Readings.{holds-top, one-message}
 use Rattle.ordering.proofs.Inv.{Inv}
 use Rattle.ordering.proofs.Keep.{reachable}
 
 pub record Newest (members : List ℕ) (first : Token) (r : Ring) : Type 0 where
-  pub cable : OnCable first (r .log) (token (newest first (r .log)))
+  pub cable : OnCable first (r .history) (token (newest first (r .history)))
   -- the place that it is addressed to
   pub place : ℕ
   pub place-in : place < length members
-  pub addressee-is : newest first (r .log) .addressee ≡ getD members place 0
-  pub addressee-own : r .at place .own ≡ newest first (r .log) .addressee
+  pub addressee-is : newest first (r .history) .addressee ≡ getD members place 0
+  pub addressee-own : r .at place .own ≡ newest first (r .history) .addressee
   -- a ring of one addresses its own station, that then has forwarded it
-  pub waiting : 2 ≤ length members → r .at place .last < newest first (r .log) .number
+  pub waiting : 2 ≤ length members → r .at place .last < newest first (r .history) .number
   -- every station
   pub members-are : (q : ℕ) → q < length members → r .at q .members ≡ members
   pub own-is : (q : ℕ) → q < length members → r .at q .own ≡ getD members q 0
-  pub level-most : (q : ℕ) → q < length members → r .at q .level ≤ newest first (r .log) .highest
-  pub held-most : (q : ℕ) → q < length members → (n : ℕ) (x : Message) → r .at q .held n ≡ some x → n ≤ newest first (r .log) .highest
-  pub last-most : (q : ℕ) → q < length members → r .at q .last ≤ newest first (r .log) .number
+  pub level-most : (q : ℕ) → q < length members → r .at q .level ≤ newest first (r .history) .highest
+  pub held-most : (q : ℕ) → q < length members → (n : ℕ) (x : Message) → r .at q .held n ≡ some x → n ≤ newest first (r .history) .highest
+  pub last-most : (q : ℕ) → q < length members → r .at q .last ≤ newest first (r .history) .number
   -- every frame on the cable
-  pub one-message : (x y : Message) → OnCable first (r .log) (message x) → OnCable first (r .log) (message y) → x .number ≡ y .number → x ≡ y
-  pub older : (t : Token) → OnCable first (r .log) (token t) → t .number ≤ newest first (r .log) .number
-  pub only : (t : Token) (q : ℕ) → q < length members → OnCable first (r .log) (token t) → t .addressee ≡ r .at q .own → r .at q .last < t .number → t ≡ newest first (r .log)
+  pub one-message : (x y : Message) → OnCable first (r .history) (message x) → OnCable first (r .history) (message y) → x .number ≡ y .number → x ≡ y
+  pub older : (t : Token) → OnCable first (r .history) (token t) → t .number ≤ newest first (r .history) .number
+  pub only : (t : Token) (q : ℕ) → q < length members → OnCable first (r .history) (token t) → t .addressee ≡ r .at q .own → r .at q .last < t .number → t ≡ newest first (r .history)
 
 newest-of : {members : List ℕ} {first : Token} {r : Ring} → Inv members first r → Newest members first r
 newest-of {members} {first} {r} i =
@@ -54,5 +54,5 @@ newest-of {members} {first} {r} i =
     }
 
 pub newest-is : (members text : List ℕ) → Distinct members → 1 ≤ length members → (calls : List Call) → Allows members text calls
-    → Newest members (firstToken members text) (after members text calls)
+    → Newest members (foundingToken members text) (after members text calls)
 newest-is members text distinct h calls k = newest-of (reachable members text distinct h calls k)

@@ -6,10 +6,10 @@ use mathlib.Core.Bool.{Bool, true, false, not, cond}
 use mathlib.Core.List.{List, _∷_, _++_}
 use mathlib.Core.Option.{none, some}
 use native.Mathlib.Omega.{arith}
-use Rattle.ordering.specs.Frame.{Message, Token, message}
-use Rattle.ordering.specs.Station.{Station, window, given, put, keeps, heldWith, levelWith, handedWith, heard, due}
-use Rattle.ordering.specs.Log.{Entry, writtenAt, OnCable, Received}
-use Rattle.ordering.specs.Run.{hearing, entry}
+use Rattle.ordering.specs.inner.Frame.{Message, Token, message}
+use Rattle.ordering.specs.inner.Station.{Station, window, given, put, keeps, heldWith, levelWith, handedWith, heard, due}
+use Rattle.ordering.specs.inner.History.{Event, writtenAt, OnCable, Received}
+use Rattle.ordering.specs.inner.Run.{hearing, event}
 use Rattle.ordering.proofs.Base.{none-some, some-same, leb-cases, ltb-cases}
 use Rattle.ordering.proofs.Store.{put-cases, level-up}
 use Rattle.ordering.proofs.Cable.{received-stays, reading-stays, reading-cases, handed-here}
@@ -61,13 +61,13 @@ kept-is : (b : Bool) (x y : Message) → cond b (some x) none ≡ some y → (b 
 kept-is true x y e = (refl, cc)
 kept-is false x y e = absurd (none-some e)
 
-pub local-heard : {members : List ℕ} {first : Token} {xs : List Message} {log : List Entry} {s : Station} (p : ℕ) (x : Message)
-    → Readings first xs log
-    → OnCable first log (message x)
-    → Local members first xs log p s
-    → Local members first xs (entry s (hearing p x) ∷ log) p (heard s x)
+pub local-heard : {members : List ℕ} {first : Token} {xs : List Message} {history : List Event} {s : Station} (p : ℕ) (x : Message)
+    → Readings first xs history
+    → OnCable first history (message x)
+    → Local members first xs history p s
+    → Local members first xs (event s (hearing p x) ∷ history) p (heard s x)
 unfolding heard handedWith
-local-heard {members} {first} {xs} {log} {s} p x r cable l =
+local-heard {members} {first} {xs} {history} {s} p x r cable l =
     record {
       members-are = l .members-are;
       own-is = l .own-is;
@@ -81,7 +81,7 @@ local-heard {members} {first} {xs} {log} {s} p x r cable l =
       gap = c .rise .gap;
       had = λ n a b.
           ⊎-elim
-          (λ w. received-stays e log n p (l .had n a (w .1)))
+          (λ w. received-stays e history n p (l .had n a (w .1)))
           (λ w. let f = c .rise .filled n (w .1) b in holds' n (f .0) (f .1))
           (leb-cases n (s .level));
       holds = holds';
@@ -92,13 +92,13 @@ local-heard {members} {first} {xs} {log} {s} p x r cable l =
           inr (x, subst (λ z. heldWith s x (z .number) ≡ some x) same (with-kept s x (q .0))))
           (λ k. more (y .number) (l .kept y k))
           h;
-      wrote = λ n w h k. ⊎-elim (λ q. more n (l .wrote n w q k)) (λ q. absurd (q .2 .3)) (reading-cases e log n w h);
-      handed = handed-here e log ∙ ap (λ ys. ys ++ due (heldWith s x) (s .safe) (levelWith s x - s .delivered) (s .delivered)) (l .handed) ∙ c .handed;
-      leave = λ t h. absurd (none-some h);
+      wrote = λ n w h k. ⊎-elim (λ q. more n (l .wrote n w q k)) (λ q. absurd (q .2 .3)) (reading-cases e history n w h);
+      handed = handed-here e history ∙ ap (λ ys. ys ++ due (heldWith s x) (s .safe) (levelWith s x - s .delivered) (s .delivered)) (l .handed) ∙ c .handed;
+      resendable = λ t h. absurd (none-some h);
     }
   where
-    e : Entry
-    e = entry s (hearing p x)
+    e : Event
+    e = event s (hearing p x)
 
     reads' : (n : ℕ) (y : Message) → heldWith s x n ≡ some y → Holds xs n y
     reads' n y h =
@@ -119,15 +119,15 @@ local-heard {members} {first} {xs} {log} {s} p x r cable l =
     more n (inl h) = inl (omega (arith, c .rise .up))
     more n (inr h) = inr (with-more s x n (h .0) (h .1))
 
-    holds' : (n : ℕ) (y : Message) → heldWith s x n ≡ some y → Received p n (e ∷ log)
+    holds' : (n : ℕ) (y : Message) → heldWith s x n ≡ some y → Received p n (e ∷ history)
     holds' n y h =
         ⊎-elim
         (λ w.
         let q = holds-reading r n x (subst (λ m. Holds xs m x) (sym (w .1)) (r .cable x cable)) in
         record {
           first = writtenAt (q .0) (message x);
-          is = reading-stays e log n (writtenAt (q .0) (message x)) (q .1);
+          is = reading-stays e history n (writtenAt (q .0) (message x)) (q .1);
           how = inl (inl (refl, (x, rw (w .0), refl)));
         })
-        (λ w. received-stays e log n p (l .holds n y (sym w ∙ h)))
+        (λ w. received-stays e history n p (l .holds n y (sym w ∙ h)))
         (with-cases s x n)

@@ -7,10 +7,10 @@ use mathlib.Core.Option.{Option, none, some}
 use native.Mathlib.Omega.{arith}
 use lib.ListN.{length}
 use Rattle.ordering.specs.Lists.{Among, Distinct}
-use Rattle.ordering.specs.Frame.{Message, Token, message}
-use Rattle.ordering.specs.Log.{Written, writtenAt, newest, reading, handedAt}
-use Rattle.ordering.specs.Run.{Ring, Call, run, start, firstToken, AllPossible, AcceptedIn}
-use Rattle.ordering.specs.Demand.{Delivered, Round, after}
+use Rattle.ordering.specs.inner.Frame.{Message, Token, message}
+use Rattle.ordering.specs.inner.History.{Written, writtenAt, newest, reading, handedAt}
+use Rattle.ordering.specs.inner.Run.{Ring, Call, run, start, foundingToken, AllPossible, AcceptedIn}
+use Rattle.ordering.specs.inner.Demand.{Delivered, Round, after}
 use Rattle.ordering.proofs.Base.{some-same, leb-cases, at-given, among-at}
 use Rattle.ordering.proofs.Cable.{reading-found}
 use Rattle.ordering.proofs.Ids.{idOf}
@@ -26,12 +26,12 @@ module _ (members : List ℕ) (first : Token) (distinct : Distinct members) (m :
 
   -- one: the newest aru is at least m
   round-one : (r : Ring) (cs : List Call) → AllPossible (length members) first r cs → Inv members first r → All r cs → High members m r → Said members first m (run r cs)
-  round-one r cs k i all high = ⊎-elim (λ w. keep (w .1)) (λ w. low (w .1) (i .blocker) refl) (leb-cases m (newest first (r .log) .aru))
+  round-one r cs k i all high = ⊎-elim (λ w. keep (w .1)) (λ w. low (w .1) (i .blocker) refl) (leb-cases m (newest first (r .history) .aru))
     where
-      keep : m ≤ newest first (r .log) .aru → Said members first m (run r cs)
+      keep : m ≤ newest first (r .history) .aru → Said members first m (run r cs)
       keep h = kept-run distinct (Said members first m) (said-kept distinct m) cs r k i (high, h)
 
-      low : newest first (r .log) .aru < m → (b : Option ℕ) → i .blocker ≡ b → Said members first m (run r cs)
+      low : newest first (r .history) .aru < m → (b : Option ℕ) → i .blocker ≡ b → Said members first m (run r cs)
       low h none e = absurd (omega (arith, i .rules .free e, i .rules .top (i .turn) (i .rules .here), high (i .turn) (i .rules .here)))
       low h (some v) e =
           until distinct (Blocked members first m v) (Said members first m) v
@@ -55,7 +55,7 @@ module _ (members : List ℕ) (first : Token) (distinct : Distinct members) (m :
 -- ---- a safe mark, so delivered
 
 delivered-to : {members : List ℕ} {first : Token} {r : Ring} (i : Inv members first r) (p n : ℕ) (w : Written) (x : Message)
-    → 1 ≤ n → n ≤ r .at p .safe → reading (r .log) n ≡ some w → w .frame ≡ message x → Among x (handedAt p (r .log))
+    → 1 ≤ n → n ≤ r .at p .safe → reading (r .history) n ≡ some w → w .frame ≡ message x → Among x (handedAt p (r .history))
 delivered-to i p zero w x a b e f = absurd (omega arith)
 delivered-to {r = r} i p (suc k) w x a b e f =
     let short : k < r .at p .delivered = omega (arith, i .each p .safe-delivered) in
@@ -70,7 +70,7 @@ delivered-to {r = r} i p (suc k) w x a b e f =
 module _ (members text : List ℕ) (distinct : Distinct members) (nonempty : 1 ≤ length members) where
   pub delivered : Delivered members text
   delivered before one two three k m received all₁ all₂ all₃ p n h a b =
-      let first = firstToken members text in
+      let first = foundingToken members text in
       let r₀ = run (start members) before in
       let k₀ = possible-append (length members) first before (one ++ (two ++ three)) (start members) k in
       let k₁ = possible-append (length members) first one (two ++ three) r₀ (k₀ .1) in
@@ -91,11 +91,11 @@ module _ (members text : List ℕ) (distinct : Distinct members) (nonempty : 1 �
       let known = round-two members first distinct m r₁ two (k₂ .0) i₁ (subst (λ r. Round members text r two) e₁ all₂) said in
       let safe = round-three members first distinct m r₂ three (k₂ .1) i₂ (subst (λ r. Round members text r three) e₂ all₃) p h (known p h) in
       let got = received p n h a b in
-      let found = reading-found (r₀ .log) n (got .first) (got .is) in
-      let later : reading (r₃ .log) n ≡ some (got .first) = reading-run three r₂ n (got .first) (reading-run two r₁ n (got .first) (reading-run one r₀ n (got .first) (got .is))) in (
+      let found = reading-found (r₀ .history) n (got .first) (got .is) in
+      let later : reading (r₃ .history) n ≡ some (got .first) = reading-run three r₂ n (got .first) (reading-run two r₁ n (got .first) (reading-run one r₀ n (got .first) (got .is))) in (
         found .content,
         got .first,
         got .is,
         found .frame,
-        subst (λ r. Among (found .content) (handedAt p (r .log))) (sym e₃) (delivered-to i₃ p n (got .first) (found .content) a (omega arith) later (found .frame)),
+        subst (λ r. Among (found .content) (handedAt p (r .history))) (sym e₃) (delivered-to i₃ p n (got .first) (found .content) a (omega arith) later (found .frame)),
       )

@@ -11,9 +11,9 @@ use native.Mathlib.Omega.{arith}
 use lib.ListN.{length, getElem?, take}
 use lib.Dec.{leb}
 use Rattle.ordering.specs.Lists.{Among}
-use Rattle.ordering.specs.Frame.{Message}
-use Rattle.ordering.specs.Station.{Store, given, put, putAll, release, reached, due, window, levelOf}
-use Rattle.ordering.specs.Visit.{NumberedFrom}
+use Rattle.ordering.specs.inner.Frame.{Message}
+use Rattle.ordering.specs.inner.Station.{Store, given, put, putAll, release, reached, due, window, levelOf}
+use Rattle.ordering.specs.inner.Visit.{NumberedFrom}
 use Rattle.ordering.proofs.Base.{eqb-cases, ltb-cases, leb-cases, none-some, take-one-more}
 
 -- ---- held under a number

@@ -7,24 +7,24 @@ use mathlib.Core.Option.{Option, none, some}
 use native.Mathlib.Omega.{arith}
 use lib.ListN.{length, getD, length-append}
 use Rattle.ordering.specs.Lists.{Among, Distinct}
-use Rattle.ordering.specs.Frame.{Token, message, token}
-use Rattle.ordering.specs.Station.{Station}
-use Rattle.ordering.specs.Visit.{Choice, Allowed, NumberedFrom, next, heldAfter, highestAfter, levelAfter, aruAfter, blockerAfter, safeAfter, tokenAfter, visited}
-use Rattle.ordering.specs.Log.{Entry, OnCable, newest}
-use Rattle.ordering.specs.Run.{Ring, visiting, entry, update}
+use Rattle.ordering.specs.inner.Frame.{Token, message, token}
+use Rattle.ordering.specs.inner.Station.{Station}
+use Rattle.ordering.specs.inner.Visit.{Choice, Allowed, NumberedFrom, next, heldAfter, highestAfter, levelAfter, aruAfter, blockerAfter, safeAfter, tokenAfter, visited}
+use Rattle.ordering.specs.inner.History.{Event, OnCable, newest}
+use Rattle.ordering.specs.inner.Run.{Ring, visiting, event, update}
 use Rattle.ordering.proofs.Base.{among-append, among-right}
 use Rattle.ordering.proofs.Store.{level-up}
 use Rattle.ordering.proofs.Aru.{Rules, Lowered, stays, blocks, frees, Says, turnAfter, turn-cases, turn-in, rules-visit, safe-below}
 use Rattle.ordering.proofs.Cable.{cable-new, cable-cases, token-among, newest-new}
 use Rattle.ordering.proofs.Readings.{readings-more}
 use Rattle.ordering.proofs.Local.{Local, local-other}
-use Rattle.ordering.proofs.Visited.{Lowers, leaves, says, lowers-cases, safe-after-is, entry-writes, repeats-old, climb, local-visited}
+use Rattle.ordering.proofs.Visited.{Lowers, leaves, says, lowers-cases, safe-after-is, event-writes, repeats-old, climb, local-visited}
 use Rattle.ordering.proofs.Ids.{idOf, id-some, next-place}
 use Rattle.ordering.proofs.Inv.{Inv, update-ind, update-here, update-other}
 
 -- a token that may be accepted at p
 pub record Accepts (first : Token) (r : Ring) (p : ℕ) (t : Token) (c : Choice) : Type 0 where
-  pub cable : OnCable first (r .log) (token t)
+  pub cable : OnCable first (r .history) (token t)
   pub addressed : t .addressee ≡ r .at p .own
   pub newer : r .at p .last < t .number
   pub allowed : Allowed (r .at p) t c
@@ -32,7 +32,7 @@ pub record Accepts (first : Token) (r : Ring) (p : ℕ) (t : Token) (c : Choice)
 module _ {members : List ℕ} {first : Token} {r : Ring} (distinct : Distinct members) (i : Inv members first r)
     (p : ℕ) (h : p < length members) (t : Token) (c : Choice) (a : Accepts first r p t c) where
   -- it is the newest, and it is this place's turn
-  pub is-newest : newest first (r .log) ≡ t
+  pub is-newest : newest first (r .history) ≡ t
   is-newest = sym (i .only t p h (a .cable) (a .addressed) (a .newer))
 
   pub is-turn : i .turn ≡ p
@@ -51,8 +51,8 @@ module _ {members : List ℕ} {first : Token} {r : Ring} (distinct : Distinct me
   blocker-here : t .blocker ≡ idOf members (i .blocker)
   blocker-here = ap (λ u. u .blocker) (sym is-newest) ∙ i .blocker-is
 
-  pub high-after : highestAfter (r .at p) t c ≡ length (i .xs ++ c .news)
-  high-after = omega (arith, high-is, length-append (i .xs) (c .news))
+  pub high-after : highestAfter (r .at p) t c ≡ length (i .xs ++ c .added)
+  high-after = omega (arith, high-is, length-append (i .xs) (c .added))
 
   pub level-most : levelAfter (r .at p) t c ≤ highestAfter (r .at p) t c
   level-most = omega (arith, high-after, climb p t c (i .readings) high-is (a .allowed) (i .each p) .top)
@@ -101,28 +101,28 @@ module _ {members : List ℕ} {first : Token} {r : Ring} (distinct : Distinct me
 
   -- ---- the ring afterwards
 
-  abbrev e : Entry
-  e = entry (r .at p) (visiting p t c)
+  abbrev e : Event
+  e = event (r .at p) (visiting p t c)
 
   abbrev stations : ℕ → Station
   stations = update p (visited (r .at p) t c) (r .at)
 
-  new : newest first (e ∷ r .log) ≡ tokenAfter (r .at p) t c
-  new = newest-new first e (r .log) (tokenAfter (r .at p) t c) refl
+  new : newest first (e ∷ r .history) ≡ tokenAfter (r .at p) t c
+  new = newest-new first e (r .history) (tokenAfter (r .at p) t c) refl
 
   new-token : (u : Token) → Among (token u) (e .written) → u ≡ tokenAfter (r .at p) t c
   new-token u k =
       ⊎-elim
-      (λ b. absurd (⊎-elim (token-among (c .repeats) u) (token-among (c .news) u) (among-append (map message (c .repeats)) (map message (c .news)) (token u) b)))
+      (λ b. absurd (⊎-elim (token-among (c .repeats) u) (token-among (c .added) u) (among-append (map message (c .repeats)) (map message (c .added)) (token u) b)))
       (λ b. ⊎-elim (λ q. let z : token u ≡ token (tokenAfter (r .at p) t c) = q in cc) absurd b)
-      (among-append (map message (c .repeats) ++ map message (c .news)) (token (tokenAfter (r .at p) t c) ∷ []) (token u)
-      (subst (λ fs. Among (token u) fs) (entry-writes p t c (i .readings) high-is (a .allowed) (i .each p)) k))
+      (among-append (map message (c .repeats) ++ map message (c .added)) (token (tokenAfter (r .at p) t c) ∷ []) (token u)
+      (subst (λ fs. Among (token u) fs) (event-writes p t c (i .readings) high-is (a .allowed) (i .each p)) k))
 
-  number-after : newest first (e ∷ r .log) .number ≡ suc (t .number)
+  number-after : newest first (e ∷ r .history) .number ≡ suc (t .number)
   unfolding tokenAfter
   number-after = ap (λ v. v .number) new
 
-  older-here : (u : Token) → OnCable first (r .log) (token u) → u .number ≤ t .number
+  older-here : (u : Token) → OnCable first (r .history) (token u) → u .number ≤ t .number
   older-here u k = omega (arith, i .older u k, ap (λ v. v .number) is-newest)
 
   levels-rise : (q : ℕ) → r .at q .level ≤ stations q .level
@@ -140,21 +140,21 @@ module _ {members : List ℕ} {first : Token} {r : Ring} (distinct : Distinct me
       (λ q d k s m. i .safe q s k m)
 
   -- no other token is let in
-  only-after : (u : Token) → OnCable first (e ∷ r .log) (token u) → (q : ℕ) → q < length members
+  only-after : (u : Token) → OnCable first (e ∷ r .history) (token u) → (q : ℕ) → q < length members
       → u .addressee ≡ stations q .own
       → stations q .last < u .number
       → u ≡ tokenAfter (r .at p) t c
   unfolding visited
   only-after u k =
       update-ind (λ q s. q < length members → u .addressee ≡ s .own → s .last < u .number → u ≡ tokenAfter (r .at p) t c) p (visited (r .at p) t c) (r .at)
-      (λ m own last. ⊎-elim (λ b. absurd (omega (arith, older-here u b))) (new-token u) (cable-cases first e (r .log) (token u) k))
+      (λ m own last. ⊎-elim (λ b. absurd (omega (arith, older-here u b))) (new-token u) (cable-cases first e (r .history) (token u) k))
       (λ q d m own last.
       ⊎-elim
       (λ b.
       let same : u ≡ t = i .only u q m b own last ∙ is-newest in
       absurd (d (distinct q p m h (sym (i .each q .own-is) ∙ sym own ∙ ap (λ v. v .addressee) same ∙ a .addressed ∙ i .each p .own-is))))
       (new-token u)
-      (cable-cases first e (r .log) (token u) k))
+      (cable-cases first e (r .history) (token u) k))
 
   lasts-after : (q : ℕ) → q < length members → (stations q .last ≤ suc (t .number)) × (q ≢ p → stations q .last ≤ t .number)
   unfolding visited
@@ -175,32 +175,32 @@ module _ {members : List ℕ} {first : Token} {r : Ring} (distinct : Distinct me
       (ap (λ s. s .level) (update-here p (visited (r .at p) t c) (r .at)))
       (λ q d. (ap (λ s. s .aru) (update-other p (visited (r .at p) t c) (r .at) q d), ap (λ s. s .level) (update-other p (visited (r .at p) t c) (r .at) q d)))
 
-  pub inv-turn : Inv members first (record { at = stations; log = e ∷ r .log })
+  pub inv-turn : Inv members first (record { at = stations; history = e ∷ r .history })
   unfolding tokenAfter
   inv-turn =
       record {
-        xs = i .xs ++ c .news;
+        xs = i .xs ++ c .added;
         turn = turnAfter (length members) p;
         blocker = outcome .place;
-        readings = readings-more (i .readings) e (c .repeats) (c .news) (tokenAfter (r .at p) t c)
-            (entry-writes p t c (i .readings) high-is (a .allowed) (i .each p))
+        readings = readings-more (i .readings) e (c .repeats) (c .added) (tokenAfter (r .at p) t c)
+            (event-writes p t c (i .readings) high-is (a .allowed) (i .each p))
             (repeats-old p t c (i .readings) high-is (a .allowed) (i .each p))
-            (subst (λ k. NumberedFrom k (c .news)) high-is (a .allowed .news));
-        each = update-ind (λ q s. Local members first (i .xs ++ c .news) (e ∷ r .log) q s) p (visited (r .at p) t c) (r .at)
+            (subst (λ k. NumberedFrom k (c .added)) high-is (a .allowed .added));
+        each = update-ind (λ q s. Local members first (i .xs ++ c .added) (e ∷ r .history) q s) p (visited (r .at p) t c) (r .at)
             (local-visited p t c (i .readings) high-is (a .allowed) (i .each p))
-            (λ q d. local-other (i .xs ++ c .news) e (i .each q) (c .news, refl) (λ k. d (sym k)));
+            (λ q d. local-other (i .xs ++ c .added) e (i .each q) (c .added, refl) (λ k. d (sym k)));
         highest-is = ap (λ u. u .highest) new ∙ high-after;
         addressee-is = ap (λ u. u .addressee) new ∙ ap (λ ms. next ms (r .at p .own)) (i .each p .members-are) ∙ ap (next members) (i .each p .own-is) ∙ next-place members distinct p h;
         blocker-is = ap (λ u. u .blocker) new ∙ outcome .is;
         rules = subst (λ u. Rules (length members) (turnAfter (length members) p) (u .highest) (u .aru) (outcome .place) (λ q. stations q .aru) (λ q. stations q .level))
             (sym new) rules-after;
         safe = λ q s k m. omega (arith, safes q k s m, levels-rise s);
-        cable = subst (λ u. OnCable first (e ∷ r .log) (token u)) (sym new)
-            (cable-new first e (r .log) (token (tokenAfter (r .at p) t c))
-            (subst (λ fs. Among (token (tokenAfter (r .at p) t c)) fs) (sym (entry-writes p t c (i .readings) high-is (a .allowed) (i .each p)))
-            (among-right (map message (c .repeats) ++ map message (c .news)) (token (tokenAfter (r .at p) t c) ∷ []) (token (tokenAfter (r .at p) t c)) (inl refl))));
+        cable = subst (λ u. OnCable first (e ∷ r .history) (token u)) (sym new)
+            (cable-new first e (r .history) (token (tokenAfter (r .at p) t c))
+            (subst (λ fs. Among (token (tokenAfter (r .at p) t c)) fs) (sym (event-writes p t c (i .readings) high-is (a .allowed) (i .each p)))
+            (among-right (map message (c .repeats) ++ map message (c .added)) (token (tokenAfter (r .at p) t c) ∷ []) (token (tokenAfter (r .at p) t c)) (inl refl))));
         older = λ u k.
-            ⊎-elim (λ b. omega (arith, number-after, older-here u b)) (λ b. omega (arith, ap (λ v. v .number) (new-token u b ∙ sym new))) (cable-cases first e (r .log) (token u) k);
+            ⊎-elim (λ b. omega (arith, number-after, older-here u b)) (λ b. omega (arith, ap (λ v. v .number) (new-token u b ∙ sym new))) (cable-cases first e (r .history) (token u) k);
         only = λ u q m k own last. only-after u k q m own last ∙ sym new;
         lasts = λ q m. omega (arith, number-after, lasts-after q m .0);
         waiting = λ two.

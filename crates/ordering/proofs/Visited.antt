@@ -8,11 +8,11 @@ use mathlib.Core.Option.{Option, none, some}
 use native.Mathlib.Omega.{arith}
 use lib.ListN.{length, getElem?}
 use Rattle.ordering.specs.Lists.{Among}
-use Rattle.ordering.specs.Frame.{Message, Token, message, token}
-use Rattle.ordering.specs.Station.{Station, window, release, due}
-use Rattle.ordering.specs.Visit.{Choice, Allowed, NumberedFrom, heldAfter, highestAfter, levelAfter, own-or-nobody, lowers, aruAfter, blockerAfter, safeAfter, tokenAfter, handedAfter, visited, visitWrites}
-use Rattle.ordering.specs.Log.{Entry, Written, writtenAt, reading, Received}
-use Rattle.ordering.specs.Run.{visiting, entry}
+use Rattle.ordering.specs.inner.Frame.{Message, Token, message, token}
+use Rattle.ordering.specs.inner.Station.{Station, window, release, due}
+use Rattle.ordering.specs.inner.Visit.{Choice, Allowed, NumberedFrom, heldAfter, highestAfter, levelAfter, own-or-nobody, lowers, aruAfter, blockerAfter, safeAfter, tokenAfter, handedAfter, visited, visitWrites}
+use Rattle.ordering.specs.inner.History.{Event, Written, writtenAt, reading, Received}
+use Rattle.ordering.specs.inner.Run.{visiting, event}
 use Rattle.ordering.proofs.Base.{none-some, some-same, leb-cases, ltb-cases, eqb-cases, at-short, at-after, among-right, among-place}
 use Rattle.ordering.proofs.Store.{PutAll, new, old, put-all-cases, release-cases, level-up, numbered-at}
 use Rattle.ordering.proofs.Cable.{cable-new, received-stays, reading-cases, handed-here}
@@ -76,14 +76,14 @@ module _ (s : Station) (t : Token) (c : Choice) where
 
 -- ---- the station afterwards
 
-module _ {members : List ℕ} {first : Token} {xs : List Message} {log : List Entry} {s : Station} (p : ℕ) (t : Token) (c : Choice)
-    (r : Readings first xs log) (high : t .highest ≡ length xs) (a : Allowed s t c) (l : Local members first xs log p s) where
-  num : NumberedFrom (length xs) (c .news)
-  num = subst (λ k. NumberedFrom k (c .news)) high (a .news)
+module _ {members : List ℕ} {first : Token} {xs : List Message} {history : List Event} {s : Station} (p : ℕ) (t : Token) (c : Choice)
+    (r : Readings first xs history) (high : t .highest ≡ length xs) (a : Allowed s t c) (l : Local members first xs history p s) where
+  num : NumberedFrom (length xs) (c .added)
+  num = subst (λ k. NumberedFrom k (c .added)) high (a .added)
 
-  pub entry-writes : entry s (visiting p t c) .written ≡ map message (c .repeats) ++ map message (c .news) ++ (token (tokenAfter s t c) ∷ [])
+  pub event-writes : event s (visiting p t c) .written ≡ map message (c .repeats) ++ map message (c .added) ++ (token (tokenAfter s t c) ∷ [])
   unfolding visitWrites
-  entry-writes = refl
+  event-writes = refl
 
   pub repeats-old : (x : Message) → Among x (c .repeats) → Holds xs (x .number) x
   repeats-old x h =
@@ -91,55 +91,55 @@ module _ {members : List ℕ} {first : Token} {xs : List Message} {log : List En
       let q = l .reads (k .0) x (k .1) in
       subst (λ m. Holds xs m x) (sym (holds-number r (k .0) x q)) q
 
-  reads' : (n : ℕ) (x : Message) → heldAfter s t c n ≡ some x → Holds (xs ++ c .news) n x
-  reads' n x h = go (put-all-cases (length xs) (c .news) (s .held) n num)
+  reads' : (n : ℕ) (x : Message) → heldAfter s t c n ≡ some x → Holds (xs ++ c .added) n x
+  reads' n x h = go (put-all-cases (length xs) (c .added) (s .held) n num)
     where
-      go : PutAll (length xs) (c .news) (s .held) n → Holds (xs ++ c .news) n x
-      go (new j y e at is) = (length xs + j, at, at-after xs (c .news) j ∙ e ∙ sym is ∙ h)
-      go (old far is) = longer-holds xs (xs ++ c .news) (c .news, refl) n x (l .reads n x (sym is ∙ h))
+      go : PutAll (length xs) (c .added) (s .held) n → Holds (xs ++ c .added) n x
+      go (new j y e at is) = (length xs + j, at, at-after xs (c .added) j ∙ e ∙ sym is ∙ h)
+      go (old far is) = longer-holds xs (xs ++ c .added) (c .added, refl) n x (l .reads n x (sym is ∙ h))
 
   pub after-number : (n : ℕ) (x : Message) → heldAfter s t c n ≡ some x → x .number ≡ n
-  after-number n x h = go (put-all-cases (length xs) (c .news) (s .held) n num)
+  after-number n x h = go (put-all-cases (length xs) (c .added) (s .held) n num)
     where
-      go : PutAll (length xs) (c .news) (s .held) n → x .number ≡ n
-      go (new j y e at is) = ap (λ m. m .number) (some-same h is) ∙ numbered-at (length xs) (c .news) j y num e ∙ sym at
+      go : PutAll (length xs) (c .added) (s .held) n → x .number ≡ n
+      go (new j y e at is) = ap (λ m. m .number) (some-same h is) ∙ numbered-at (length xs) (c .added) j y num e ∙ sym at
       go (old far is) = holds-number r n x (l .reads n x (sym is ∙ h))
 
   near' : (n : ℕ) (x : Message) → heldAfter s t c n ≡ some x → n ≤ s .safe + window
-  near' n x h = go (put-all-cases (length xs) (c .news) (s .held) n num)
+  near' n x h = go (put-all-cases (length xs) (c .added) (s .held) n num)
     where
-      go : PutAll (length xs) (c .news) (s .held) n → n ≤ s .safe + window
-      go (new j y e at is) = omega (arith, at-short (c .news) j y e, a .few, high)
+      go : PutAll (length xs) (c .added) (s .held) n → n ≤ s .safe + window
+      go (new j y e at is) = omega (arith, at-short (c .added) j y e, a .few, high)
       go (old far is) = l .near n x (sym is ∙ h)
 
   more' : (n : ℕ) (x : Message) → s .held n ≡ some x → (y : Message) × (heldAfter s t c n ≡ some y)
-  more' n x h = go (put-all-cases (length xs) (c .news) (s .held) n num)
+  more' n x h = go (put-all-cases (length xs) (c .added) (s .held) n num)
     where
-      go : PutAll (length xs) (c .news) (s .held) n → (y : Message) × (heldAfter s t c n ≡ some y)
+      go : PutAll (length xs) (c .added) (s .held) n → (y : Message) × (heldAfter s t c n ≡ some y)
       go (new j y e at is) = (y, is)
       go (old far is) = (x, is ∙ h)
 
   pub safe-after-level : safeAfter s t c ≤ levelAfter s t c
   safe-after-level = omega (arith, safe-after-is s t c, l .aru-level, l .safe-delivered, l .delivered-level, level-up (heldAfter s t c) (s .level))
 
-  pub climb : Climbed (xs ++ c .news) s (heldAfter s t c) (safeAfter s t c)
-  climb = climbed (xs ++ c .news) (heldAfter s t c) (safeAfter s t c) l (c .news, refl) reads' near' more' safe-after-level
+  pub climb : Climbed (xs ++ c .added) s (heldAfter s t c) (safeAfter s t c)
+  climb = climbed (xs ++ c .added) (heldAfter s t c) (safeAfter s t c) l (c .added, refl) reads' near' more' safe-after-level
 
   kept-after : (n : ℕ) (x : Message) → release (safeAfter s t c) (heldAfter s t c) n ≡ some x → heldAfter s t c n ≡ some x
   kept-after n x h = ⊎-elim (λ w. sym (w .1) ∙ h) (λ w. absurd (none-some (sym (w .1) ∙ h))) (release-cases (safeAfter s t c) (heldAfter s t c) n)
 
-  holds' : (n : ℕ) (x : Message) → heldAfter s t c n ≡ some x → Received p n (entry s (visiting p t c) ∷ log)
-  holds' n x h = go (put-all-cases (length xs) (c .news) (s .held) n num)
+  holds' : (n : ℕ) (x : Message) → heldAfter s t c n ≡ some x → Received p n (event s (visiting p t c) ∷ history)
+  holds' n x h = go (put-all-cases (length xs) (c .added) (s .held) n num)
     where
-      go : PutAll (length xs) (c .news) (s .held) n → Received p n (entry s (visiting p t c) ∷ log)
+      go : PutAll (length xs) (c .added) (s .held) n → Received p n (event s (visiting p t c) ∷ history)
       go (new j y e at is) =
           record {
             first = writtenAt p (message y);
-            is = subst (λ m. reading (entry s (visiting p t c) ∷ log) m ≡ some (writtenAt p (message y))) (sym at)
-                (new-reading r (entry s (visiting p t c)) (c .repeats) (c .news) (tokenAfter s t c) entry-writes repeats-old num j y e);
+            is = subst (λ m. reading (event s (visiting p t c) ∷ history) m ≡ some (writtenAt p (message y))) (sym at)
+                (new-reading r (event s (visiting p t c)) (c .repeats) (c .added) (tokenAfter s t c) event-writes repeats-old num j y e);
             how = inr refl;
           }
-      go (old far is) = received-stays (entry s (visiting p t c)) log n p (l .holds n x (sym is ∙ h))
+      go (old far is) = received-stays (event s (visiting p t c)) history n p (l .holds n x (sym is ∙ h))
 
   after-had : (n : ℕ) (x : Message) → heldAfter s t c n ≡ some x → Had (visited s t c) n
   unfolding visited
@@ -154,7 +154,7 @@ module _ {members : List ℕ} {first : Token} {xs : List Message} {log : List En
   more n (inl h) = inl (omega (arith, level-up (heldAfter s t c) (s .level)))
   more n (inr h) = let q = more' n (h .0) (h .1) in after-had n (q .0) (q .1)
 
-  wrote' : (n : ℕ) (w : Written) → reading (entry s (visiting p t c) ∷ log) n ≡ some w → w .place ≡ p → Had (visited s t c) n
+  wrote' : (n : ℕ) (w : Written) → reading (event s (visiting p t c) ∷ history) n ≡ some w → w .place ≡ p → Had (visited s t c) n
   wrote' n w h k =
       ⊎-elim
       (λ q. more n (l .wrote n w q k))
@@ -166,16 +166,16 @@ module _ {members : List ℕ} {first : Token} {xs : List Message} {log : List En
       let g = a .repeats x m in
       let e : g .0 ≡ n = sym (holds-number r (g .0) x (l .reads (g .0) x (g .1))) ∙ number in
       more n (inr (x, subst (λ i. s .held i ≡ some x) e (g .1))))
-      (λ m. let g = among-place (c .news) x m in fresh n x (g .0) number (g .1) (put-all-cases (length xs) (c .news) (s .held) n num))
-      (written-cases r (entry s (visiting p t c)) (c .repeats) (c .news) (tokenAfter s t c) entry-writes repeats-old num x (q .2 .3)))
-      (reading-cases (entry s (visiting p t c)) log n w h)
+      (λ m. let g = among-place (c .added) x m in fresh n x (g .0) number (g .1) (put-all-cases (length xs) (c .added) (s .held) n num))
+      (written-cases r (event s (visiting p t c)) (c .repeats) (c .added) (tokenAfter s t c) event-writes repeats-old num x (q .2 .3)))
+      (reading-cases (event s (visiting p t c)) history n w h)
     where
-      fresh : (n : ℕ) (x : Message) (j : ℕ) → x .number ≡ n → getElem? (c .news) j ≡ some x → PutAll (length xs) (c .news) (s .held) n → Had (visited s t c) n
+      fresh : (n : ℕ) (x : Message) (j : ℕ) → x .number ≡ n → getElem? (c .added) j ≡ some x → PutAll (length xs) (c .added) (s .held) n → Had (visited s t c) n
       fresh n x j e at (new i y f g is) = after-had n y is
-      fresh n x j e at (old (inl far) is) = absurd (omega (arith, numbered-at (length xs) (c .news) j x num at))
-      fresh n x j e at (old (inr far) is) = absurd (omega (arith, numbered-at (length xs) (c .news) j x num at, at-short (c .news) j x at))
+      fresh n x j e at (old (inl far) is) = absurd (omega (arith, numbered-at (length xs) (c .added) j x num at))
+      fresh n x j e at (old (inr far) is) = absurd (omega (arith, numbered-at (length xs) (c .added) j x num at, at-short (c .added) j x at))
 
-  pub local-visited : Local members first (xs ++ c .news) (entry s (visiting p t c) ∷ log) p (visited s t c)
+  pub local-visited : Local members first (xs ++ c .added) (event s (visiting p t c) ∷ history) p (visited s t c)
   unfolding visited handedAfter
   local-visited =
       record {
@@ -193,19 +193,19 @@ module _ {members : List ℕ} {first : Token} {xs : List Message} {log : List En
         gap = ⊎-elim (λ w. w .1 ∙ climb .rise .gap) (λ w. w .1) (release-cases (safeAfter s t c) (heldAfter s t c) (suc (levelAfter s t c)));
         had = λ n lo hi.
             ⊎-elim
-            (λ w. received-stays (entry s (visiting p t c)) log n p (l .had n lo (w .1)))
+            (λ w. received-stays (event s (visiting p t c)) history n p (l .had n lo (w .1)))
             (λ w. let f = climb .rise .filled n (w .1) hi in holds' n (f .0) (f .1))
             (leb-cases n (s .level));
         holds = λ n x h. holds' n x (kept-after n x h);
         kept = λ x h. ⊎-elim (λ k. absurd (none-some (k .1 .1))) (λ k. more (x .number) (l .kept x k)) h;
         wrote = wrote';
-        handed = handed-here (entry s (visiting p t c)) log
+        handed = handed-here (event s (visiting p t c)) history
             ∙ ap (λ ys. ys ++ due (heldAfter s t c) (safeAfter s t c) (levelAfter s t c - s .delivered) (s .delivered))
-            (l .handed ∙ sym (longer-take xs (xs ++ c .news) (c .news, refl) (s .delivered) (omega (arith, l .delivered-level, l .level-top))))
+            (l .handed ∙ sym (longer-take xs (xs ++ c .added) (c .added, refl) (s .delivered) (omega (arith, l .delivered-level, l .level-top))))
             ∙ climb .handed;
-        leave = λ u h.
+        resendable = λ u h.
             let e : tokenAfter s t c ≡ u = (let k : some (tokenAfter s t c) ≡ some u = h in cc) in
-            cable-new first (entry s (visiting p t c)) log (token u)
-            (subst (λ fs. Among (token u) fs) (sym entry-writes)
-            (among-right (map message (c .repeats) ++ map message (c .news)) (token (tokenAfter s t c) ∷ []) (token u) (inl (ap token (sym e)))));
+            cable-new first (event s (visiting p t c)) history (token u)
+            (subst (λ fs. Among (token u) fs) (sym event-writes)
+            (among-right (map message (c .repeats) ++ map message (c .added)) (token (tokenAfter s t c) ∷ []) (token u) (inl (ap token (sym e)))));
       }

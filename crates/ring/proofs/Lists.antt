@@ -5,7 +5,7 @@ use mathlib.Core.Logic.{_⊎_, inl, inr}
 use mathlib.Core.Option.{some}
 use Prim.Native.Nat.{ℕ}
 use Rattle.visit.specs.Reads.{Each}
-use Rattle.ordering.specs.Frame as seen
+use Rattle.ordering.specs.inner.Frame as seen
 use Rattle.ordering.specs.Lists.{Among}
 use Rattle.ordering.proofs.Base.{some-same, among-append}
 pub use mathlib.Core.List.{map-append as map-join, map-map as map-twice}

@@ -16,10 +16,11 @@ pub data Call : Type 0 where
   arrival : (place : ℕ) (frame frames deliveries : List ℕ) → Call
   resending : (place : ℕ) (frames : List ℕ) → Call
 
-abbrev pub placeOf : Call → ℕ
-placeOf (post place service content) = place
-placeOf (arrival place frame frames deliveries) = place
-placeOf (resending place frames) = place
+-- the place of the station where it is made
+abbrev pub stationOf : Call → ℕ
+stationOf (post place service content) = place
+stationOf (arrival place frame frames deliveries) = place
+stationOf (resending place frames) = place
 
 abbrev pub replyTo : Record → Call → Reply
 replyTo r (post place service content) = posted r service content

@@ -6,59 +6,37 @@ use mathlib.Core.List.{List, [], _∷_, _++_}
 use mathlib.Core.Logic.{_⊎_}
 use mathlib.Core.Option.{some}
 use lib.ListN.{length}
-use Rattle.record.specs.declared.Record.{Record}
-use Rattle.station.specs.Reply.{Reply}
 use Rattle.ordering.specs.Lists.{Among, OneBegins}
-use Rattle.ring.specs.Calls.{Call, post, arrival, resending, placeOf, replyTo}
-use Rattle.ring.specs.Log.{Entry, Written, OnCable, reading, isSafe, Received, deliveryList, handedBy, DeliveredAt, accepted}
-use Rattle.ring.specs.Run.{ringFoundable, records, firstFrame, ringOf, start, run}
-
--- what calls come to: the log after a list of them, and the reply to one more
-pub record Account : Type 0 where
-  pub log : List Call → List Entry
-  pub reply : List Call → Call → Reply
-
--- of stations whose records are structs
-abbrev pub accountOf : (ℕ → Record) → Account
-accountOf founded =
-    record {
-      log = λ calls. run (start founded) calls .log;
-      reply = λ before c. replyTo (run (start founded) before .at (placeOf c)) c;
-    }
-
--- from the records that founding left
-abbrev pub overStructs : List ℕ → ℕ → Account
-overStructs members ring = accountOf (records members ring)
-
-abbrev pub entryAfter : Account → List Call → Call → Entry
-entryAfter a before c = record { call = c; reply = a .reply before c }
+use Rattle.ring.specs.Calls.{Call, post, arrival, resending, stationOf}
+use Rattle.ring.specs.History.{Event, Written, OnCable, reading, isSafe, Received, deliveryList, handedBy, DeliveredAt, isAccepted}
+use Rattle.ring.specs.Run.{ringFoundable, firstFrame, ringOf, Account, eventAfter, overStructs}
 
 -- an arrival is handed a copy of a frame that is on the cable
-abbrev pub Handed : List ℕ → List Entry → Call → Type 0
-Handed first log (post place service content) = Unit {0}
-Handed first log (arrival place frame frames deliveries) = OnCable first log frame
-Handed first log (resending place frames) = Unit {0}
+abbrev pub Handed : List (List ℕ) → List Event → Call → Type 0
+Handed firsts history (post place service content) = Unit {0}
+Handed firsts history (arrival place frame frames deliveries) = OnCable firsts history frame
+Handed firsts history (resending place frames) = Unit {0}
 
 module _ (members : List ℕ) (ring : ℕ) (a : Account) where
   -- the calls can be made after those before: each at one of the stations
   abbrev pub CanAfter : List Call → List Call → Type 0
   CanAfter before [] = Unit {0}
   CanAfter before (c ∷ cs) =
-      (placeOf c < length members)
-      × Handed (firstFrame members ring) (a .log before) c
+      (stationOf c < length members)
+      × Handed (firstFrame members ring ∷ []) (a .history before) c
       × CanAfter (before ++ (c ∷ [])) cs
 
   abbrev pub IsReceived : List Call → ℕ → ℕ → Type 0
-  IsReceived calls p n = Received (ringOf members ring) (a .log calls) p n
+  IsReceived calls p n = Received (ringOf members ring) (a .history calls) p n
 
   abbrev pub IsReading : List Call → ℕ → Written → Type 0
-  IsReading calls n w = reading (ringOf members ring) (a .log calls) n ≡ some w
+  IsReading calls n w = reading (ringOf members ring) (a .history calls) n ≡ some w
 
   -- ---- delivery lists are alike or one begins the other
 
   abbrev pub OneOrder : List Call → Type 0
   OneOrder calls = (p q : ℕ) → p < length members → q < length members
-      → OneBegins (deliveryList p (a .log calls)) (deliveryList q (a .log calls))
+      → OneBegins (deliveryList p (a .history calls)) (deliveryList q (a .history calls))
 
   -- ---- a safe reading delivered anywhere had been received everywhere before the call that delivered it
 
@@ -68,7 +46,7 @@ module _ (members : List ℕ) (ring : ℕ) (a : Account) where
       → (n : ℕ) (w : Written)
       → IsReading calls n w
       → isSafe (w .frame) ≡ true
-      → Among (w .frame) (handedBy (entryAfter a before c))
+      → Among (w .frame) (handedBy (eventAfter a before c))
       → (p : ℕ) → p < length members → IsReceived before p n
 
   -- ---- what everybody has received, everybody has delivered three rounds later
@@ -77,7 +55,7 @@ module _ (members : List ℕ) (ring : ℕ) (a : Account) where
   abbrev pub AcceptedIn : ℕ → List Call → List Call → Type 0
   AcceptedIn p before [] = ⊥
   AcceptedIn p before (c ∷ cs) =
-      ((placeOf c ≡ p) × (accepted (entryAfter a before c) ≡ true))
+      ((stationOf c ≡ p) × (isAccepted (eventAfter a before c) ≡ true))
       ⊎ AcceptedIn p (before ++ (c ∷ [])) cs
 
   -- a round is over when each station has accepted one more; the next begins there
@@ -93,7 +71,7 @@ module _ (members : List ℕ) (ring : ℕ) (a : Account) where
       → Round before one
       → Round (before ++ one) two
       → Round (before ++ (one ++ two)) three
-      → (p : ℕ) (w : Written) → p < length members → IsReading calls n w → DeliveredAt p (a .log calls) (w .frame)
+      → (p : ℕ) (w : Written) → p < length members → IsReading calls n w → DeliveredAt p (a .history calls) (w .frame)
 
   pub record WholeRun (calls : List Call) : Type 0 where
     pub one-order : OneOrder calls

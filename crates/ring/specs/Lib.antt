@@ -1,11 +1,11 @@
 pub mod Calls
-pub mod Log
+pub mod History
 pub mod Run
 pub mod Demand
 pub mod Listed
 pub mod AlwaysWhole
 pub mod Newest
-pub mod Promise
 pub mod OverBytes
+pub mod Promise
 pub mod Stations
-pub mod Script
+pub mod trials

@@ -5,8 +5,9 @@ use mathlib.Core.Path.{_≡_}
 use mathlib.Core.List.{List, [], _∷_}
 use lib.ListN.{length}
 use Rattle.ring.specs.Calls.{Call}
-use Rattle.ring.specs.Log.{Written, deliveries}
-use Rattle.ring.specs.Demand.{Account, IsReading, EveryRun}
+use Rattle.ring.specs.History.{Written, deliveries}
+use Rattle.ring.specs.Run.{Account}
+use Rattle.ring.specs.Demand.{IsReading, EveryRun}
 
 module _ (members : List ℕ) (ring : ℕ) (a : Account) where
   -- these frames are the readings from n on
@@ -17,7 +18,7 @@ module _ (members : List ℕ) (ring : ℕ) (a : Account) where
       × ReadingsFrom calls (suc n) fs
 
   abbrev pub ListedInOrder : List Call → Type 0
-  ListedInOrder calls = (p : ℕ) → p < length members → ReadingsFrom calls 1 (deliveries p (a .log calls))
+  ListedInOrder calls = (p : ℕ) → p < length members → ReadingsFrom calls 1 (deliveries p (a .history calls))
 
 abbrev pub Listed : Type 0
 Listed = EveryRun ListedInOrder

@@ -9,9 +9,9 @@ use Rattle.frames.specs.Number.{mostNumber}
 use Rattle.frames.specs.Read.{readOf}
 use Rattle.visit.specs.Output.{mostFrames, mostDeliveries}
 use Rattle.ring.specs.Calls.{Call, arrival}
-use Rattle.ring.specs.Log.{Entry, writtenBy, accepted}
-use Rattle.ring.specs.Run.{firstFrame}
-use Rattle.ring.specs.Demand.{Account, entryAfter, EveryRun}
+use Rattle.ring.specs.History.{Event, writtenBy, isAccepted}
+use Rattle.ring.specs.Run.{firstFrame, Account, eventAfter}
+use Rattle.ring.specs.Demand.{EveryRun}
 
 -- the last of the frames
 abbrev pub lastOf : List ℕ → List (List ℕ) → List ℕ
@@ -19,13 +19,13 @@ lastOf frame [] = frame
 lastOf frame (f ∷ fs) = lastOf f fs
 
 -- the token that was written last by a call that accepted one; before any, founding's
-unfoldable pub newest : List ℕ → List Entry → List ℕ
+unfoldable pub newest : List ℕ → List Event → List ℕ
 newest first [] = first
-newest first (e ∷ earlier) = cond (accepted e) (lastOf [] (writtenBy e)) (newest first earlier)
+newest first (e ∷ earlier) = cond (isAccepted e) (lastOf [] (writtenBy e)) (newest first earlier)
 
 module _ (members : List ℕ) (ring : ℕ) (a : Account) where
   abbrev pub newestAfter : List Call → List ℕ
-  newestAfter calls = newest (firstFrame members ring) (a .log calls)
+  newestAfter calls = newest (firstFrame members ring) (a .history calls)
 
   -- it is addressed to a member, which accepts it whenever the buffers are large enough and its number is not the last
   pub record NewestAccepted (calls : List Call) : Type 0 where
@@ -36,7 +36,7 @@ module _ (members : List ℕ) (ring : ℕ) (a : Account) where
         → mostFrames ≤ length frames
         → mostDeliveries ≤ length deliveries
         → readOf (newestAfter calls) .token .number .0 < mostNumber
-        → accepted (entryAfter a calls (arrival place (newestAfter calls) frames deliveries)) ≡ true
+        → isAccepted (eventAfter a calls (arrival place (newestAfter calls) frames deliveries)) ≡ true
 
 abbrev pub NeverRefused : Type 0
 NeverRefused = EveryRun NewestAccepted

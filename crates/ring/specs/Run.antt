@@ -9,16 +9,12 @@ use Rattle.frames.specs.Layout.{shortestToken}
 use Rattle.frames.specs.declared.header.Header.{Header}
 use Rattle.record.specs.Lent.{noRecord}
 use Rattle.record.specs.Members.{representative, membersCounted, idsFollow, ringInRange}
+use Rattle.record.specs.Whole.{whole}
 use Rattle.record.specs.declared.Record.{Record}
 use Rattle.station.specs.Reply.{Reply}
 use Rattle.station.specs.Found.{foundedOn}
-use Rattle.ring.specs.Calls.{Call, placeOf, replyTo}
-use Rattle.ring.specs.Log.{Entry}
-
--- the stations by place, and what was called
-pub record Ring : Type 0 where
-  pub at : ℕ → Record
-  pub log : List Entry
+use Rattle.ring.specs.Calls.{Call, stationOf, replyTo}
+use Rattle.ring.specs.History.{Event}
 
 -- ---- founding: one record for each member, and the ring's first token on the cable
 
@@ -48,22 +44,66 @@ OneFirst = (members : List ℕ) (ring : ℕ)
 abbrev pub ringOf : List ℕ → ℕ → Header
 ringOf members ring = record { ring = record { 0 = ring }; representative = representative members }
 
--- ---- a call at its place; the other stations stay as they are
+-- ---- a list of calls, whatever represents a station
 
-unfoldable pub update : ℕ → Record → (ℕ → Record) → ℕ → Record
-update p r at q = cond (eqb q p) r (at q)
+-- what a call at a station replies, what it leaves, and whether the record is whole
+pub record Representation (S : Type 0) : Type 0 where
+  pub replyOf : S → Call → Reply
+  pub leaves : S → Call → S
+  pub isWhole : S → Bool
 
-unfoldable pub step : Ring → Call → Ring
-step s c =
+-- the stations by place, and what was called
+pub record Ring (S : Type 0) : Type 0 where
+  pub at : ℕ → S
+  pub history : List Event
+
+-- before any call
+abbrev pub start : {S : Type 0} → (ℕ → S) → Ring S
+start founded = record { at = founded; history = [] }
+
+-- one station changes; the others stay as they are
+unfoldable pub update : {S : Type 0} → ℕ → S → (ℕ → S) → ℕ → S
+update p s at q = cond (eqb q p) s (at q)
+
+module _ {S : Type 0} (stations : Representation S) where
+  -- a call at its station
+  unfoldable pub step : Ring S → Call → Ring S
+  step r c =
+      record {
+        at = update (stationOf c) (stations .leaves (r .at (stationOf c)) c) (r .at);
+        history = record { call = c; reply = stations .replyOf (r .at (stationOf c)) c } ∷ r .history;
+      }
+
+  -- the ring after a list of calls
+  unfoldable pub run : Ring S → List Call → Ring S
+  run r [] = r
+  run r (c ∷ cs) = run (step r c) cs
+
+-- ---- what calls come to
+
+-- the history after a list of them, the reply to one more, and whether the record at a place is whole then
+pub record Account : Type 0 where
+  pub history : List Call → List Event
+  pub reply : List Call → Call → Reply
+  pub isWhole : List Call → ℕ → Bool
+
+-- from those stations on
+abbrev pub accountOf : {S : Type 0} → Representation S → (ℕ → S) → Account
+accountOf stations founded =
     record {
-      at = update (placeOf c) (replyTo (s .at (placeOf c)) c .rec) (s .at);
-      log = record { call = c; reply = replyTo (s .at (placeOf c)) c } ∷ s .log;
+      history = λ calls. run stations (start founded) calls .history;
+      reply = λ before c. stations .replyOf (run stations (start founded) before .at (stationOf c)) c;
+      isWhole = λ calls p. stations .isWhole (run stations (start founded) calls .at p);
     }
 
--- the ring after a list of calls, from those records on
-abbrev pub start : (ℕ → Record) → Ring
-start founded = record { at = founded; log = [] }
+-- one call more
+abbrev pub eventAfter : Account → List Call → Call → Event
+eventAfter a before c = record { call = c; reply = a .reply before c }
 
-unfoldable pub run : Ring → List Call → Ring
-run s [] = s
-run s (c ∷ cs) = run (step s c) cs
+-- ---- stations whose records are structs, from the records that founding left
+
+abbrev pub structs : Representation Record
+structs = record { replyOf = replyTo; leaves = λ r c. replyTo r c .rec; isWhole = whole }
+
+abbrev pub overStructs : List ℕ → ℕ → Account
+overStructs members ring = accountOf structs (records members ring)

@@ -1,22 +1,24 @@
 -- A ring of stations for programs: their records stand one after another in lent bytes, place p's from recordSize * p on. Each call at a
 -- place is the call over bytes on the record there. [document 01, The station and its neighbours; Trials: the bench]
-use Prim.Native.Nat.{ℕ, zero, suc, _+_, _*_, _-_}
+use Prim.Native.Nat.{ℕ, zero, suc, _+_, _*_, _-_, _<_}
 use mathlib.Core.Path.{_≡_}
 use mathlib.Core.Bool.{Bool, true, false, cond}
 use mathlib.Core.List.{List, [], _∷_, _++_}
 use lib.ListN.{length, getD, take, drop}
 use lib.Dec.{leb, eqb}
+use Rattle.frames.specs.Layout.{shortestToken}
 use Rattle.frames.specs.Read.{readOf}
 use Rattle.frames.specs.declared.reader.Answer.{Answer}
 use Rattle.frames.specs.declared.reader.Answer.the-variants.{Refused, IsMessage, IsToken}
 use Rattle.record.specs.Layout.{recordSize}
 use Rattle.record.specs.Lent.{noRecord}
-use Rattle.station.specs.Reply.{Reply, refused, doneOf}
+use Rattle.station.specs.Reply.{Reply, refused}
 use Rattle.visit.specs.Output.{followedBy, mostFrames}
 use Rattle.visit.specs.Within.{framesIn}
 use Rattle.station.specs.declared.refusal.Refusal.the-variants.{NoRoom}
 use Rattle.station.specs.Answer.{isTaken}
-use Rattle.totem.specs.Over.{idsIn, stationAfter, foundOver, postOver, arriveOver}
+use Rattle.station.specs.Over.{idsIn, foundOver, postOver, arriveOver}
+use Rattle.station.specs.Reply.{stationAfter}
 use Rattle.ring.specs.OverBytes.{bytesFounded, Founding}
 
 -- ---- a place
@@ -31,15 +33,15 @@ withRecord p s records = take (recordSize * p) records ++ (s ++ drop (recordSize
 
 -- the records after a call at a place that gave this reply
 abbrev pub recordsAfter : ℕ → Reply → List ℕ → List ℕ
-recordsAfter p reply records = withRecord p (stationAfter (doneOf reply) (recordAt p records)) records
+recordsAfter p reply records = withRecord p (stationAfter reply (recordAt p records)) records
 
 -- ---- posting, and a frame that arrives
 
-abbrev pub postAt : ℕ → List ℕ → ℕ → List ℕ → Reply
-postAt p records service content = postOver (recordAt p records) service content
+abbrev pub postedAt : ℕ → List ℕ → ℕ → List ℕ → Reply
+postedAt p records service content = postOver (recordAt p records) service content
 
-abbrev pub arriveAt : ℕ → List ℕ → List ℕ → ℕ → ℕ → Reply
-arriveAt p records frame frames deliveries = arriveOver (recordAt p records) frame frames deliveries
+abbrev pub arrivedAt : ℕ → List ℕ → List ℕ → ℕ → ℕ → Reply
+arrivedAt p records frame frames deliveries = arriveOver (recordAt p records) frame frames deliveries
 
 -- ---- founding a ring: each member's station at its place
 
@@ -54,7 +56,7 @@ ringFounded records list ring room =
 -- the records of the first n members, each as founding over bytes leaves it: those that demand 3 over bytes starts from
 unfoldable pub recordsFounded : List ℕ → ℕ → List ℕ → ℕ → List ℕ
 recordsFounded list ring records zero = []
-recordsFounded list ring records (suc n) = recordsFounded list ring records n ++ bytesFounded list ring (λ p. recordAt p records) n
+recordsFounded list ring records (suc n) = recordsFounded list ring records n ++ bytesFounded list ring (λ p. recordAt p records) (λ p. shortestToken) n
 
 -- the first n members have founded
 abbrev pub foundedUpTo : List ℕ → ℕ → List ℕ → ℕ → List ℕ
@@ -67,11 +69,13 @@ ringAfter records list ring room =
     (foundedUpTo list ring records (length (idsIn list)))
     records
 
--- a ring that was founded so is one of those that demand 3 over bytes speaks of
+-- a ring that was founded so is one of those that demand 3 over bytes speaks of, and begins with the records that it speaks of
 abbrev pub FoundedForDemand : Type 0
 FoundedForDemand = (records list : List ℕ) (ring room : ℕ)
     → isTaken (ringFounded records list ring room .answer) ≡ true
-    → Founding list ring (λ p. recordAt p records)
+    → Founding list ring (λ p. recordAt p records) (λ p. shortestToken)
+    × ((p : ℕ) → p < length (idsIn list)
+    → recordAt p (ringAfter records list ring room) ≡ bytesFounded list ring (λ q. recordAt q records) (λ q. shortestToken) p)
 
 -- ---- broadcasts reach one place: the message frames within the bytes that a call wrote, in the order written, one arrival each
 
@@ -89,7 +93,7 @@ pub record Heard : Type 0 where
 abbrev pub hearsMessage : ℕ → Heard → List ℕ → Heard
 hearsMessage room h frame =
     let reply = arriveOver (h .bytes) frame mostFrames (room - length (h .handed)) in
-    record { bytes = stationAfter (doneOf reply) (h .bytes); handed = h .handed ++ reply .deliveries }
+    record { bytes = stationAfter reply (h .bytes); handed = h .handed ++ reply .deliveries }
 
 -- a frame more; a token isn't for all
 abbrev pub hears : ℕ → Heard → List ℕ → Heard

@@ -20,7 +20,8 @@ ghost use Rattle.ring.specs.Promise.{Promised};
 use frames::RingNumber;
 
 // Can a ring be founded on this list and ring number? Where it can, every list of calls that can be made
-// meets demand 3, delivery lists are readings 1, 2, 3 and so on, and the newest token is never refused.
+// meets demand 3, delivery lists are readings 1, 2, 3 and so on, the newest token is never refused, and
+// records stay whole: over structs, and over bytes in whatever buffers the members founded.
 // Ruled out: yes to a ring of one; no to a list that founding takes.
 pub fn foundable(members: &[u16], ring: RingNumber) -> bool
     ensures { λ r. ⌜

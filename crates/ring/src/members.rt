@@ -2,7 +2,7 @@
 ghost use mathlib.Core.Path.{_≡_};
 ghost use Prim.Native.Nat.{_<_};
 ghost use lib.ListN.{length, getD};
-ghost use Rattle.totem.specs.Over.{idsIn};
+ghost use Rattle.station.specs.Over.{idsIn};
 ghost use Rattle.ring.specs.Stations.{placeFrom, addresseePlace};
 
 // How many ids are in the list: an odd number of bytes is no list.

@@ -6,7 +6,7 @@ ghost use lib.ListN.{length};
 ghost use Rattle.record.specs.Layout.{recordSize};
 ghost use Rattle.station.specs.Answer.{outcomeOf};
 ghost use Rattle.visit.specs.Output.{followedBy};
-ghost use Rattle.ring.specs.Stations.{recordsAfter, postAt, arriveAt};
+ghost use Rattle.ring.specs.Stations.{recordsAfter, postedAt, arrivedAt};
 use station::Outcome;
 
 // Where the record of a place begins, or where the bytes end.
@@ -33,9 +33,9 @@ pub fn end_of(records: &[u8], place: usize) -> usize
 // A post at a place. Ruled out: another place's record changed; a place past the end taken.
 pub fn post_at(records: &mut [u8], place: usize, service: u16, content: &[u8]) -> Outcome
     ensures { λ r. ⌜
-        (r ≡ outcomeOf (postAt place (now (records .entry)) service (now (content .entry)) .answer))
+        (r ≡ outcomeOf (postedAt place (now (records .entry)) service (now (content .entry)) .answer))
         × (now (records .exit) ≡ recordsAfter place
-        (postAt place (now (records .entry)) service (now (content .entry)))
+        (postedAt place (now (records .entry)) service (now (content .entry)))
         (now (records .entry))) ⌝ }
 {
     let from = start_of(records, place);
@@ -54,15 +54,15 @@ pub fn arrive_at(
 ) -> Outcome
     ensures { λ r. ⌜
         (r ≡ outcomeOf
-        (arriveAt place (now (records .entry)) (now (frame .entry)) (length (now (frames .entry))) (length (now (deliveries .entry))) .answer))
+        (arrivedAt place (now (records .entry)) (now (frame .entry)) (length (now (frames .entry))) (length (now (deliveries .entry))) .answer))
         × (now (records .exit) ≡ recordsAfter place
-        (arriveAt place (now (records .entry)) (now (frame .entry)) (length (now (frames .entry))) (length (now (deliveries .entry))))
+        (arrivedAt place (now (records .entry)) (now (frame .entry)) (length (now (frames .entry))) (length (now (deliveries .entry))))
         (now (records .entry)))
         × (now (frames .exit) ≡ followedBy
-        (arriveAt place (now (records .entry)) (now (frame .entry)) (length (now (frames .entry))) (length (now (deliveries .entry))) .frames)
+        (arrivedAt place (now (records .entry)) (now (frame .entry)) (length (now (frames .entry))) (length (now (deliveries .entry))) .frames)
         (now (frames .entry)))
         × (now (deliveries .exit) ≡ followedBy
-        (arriveAt place (now (records .entry)) (now (frame .entry)) (length (now (frames .entry))) (length (now (deliveries .entry))) .deliveries)
+        (arrivedAt place (now (records .entry)) (now (frame .entry)) (length (now (frames .entry))) (length (now (deliveries .entry))) .deliveries)
         (now (deliveries .entry))) ⌝ }
 {
     let from = start_of(records, place);

@@ -3,7 +3,7 @@ use mathlib.Core.Path.{_≡_}
 use native.Mathlib.Omega.{arith}
 use lib.ListN.{length}
 use borrow.Author.Needs.{needs}
-use Rattle.ring.proofs.CutLaws.{first-inside, first-some}
+use Rattle.ring.proofs.places.CutLaws.{first-inside, first-some}
 use Rattle.bench.proofs.print.deliveries.Statement.{statement}
 use Rattle.bench.proofs.print.deliveries.Tie as tie
 

@@ -1,6 +1,6 @@
 use native.Mathlib.Omega.{arith}
 use borrow.Author.Needs.{needs}
-use Rattle.ring.proofs.CutLaws.{size-none, size-cut, size-own}
+use Rattle.ring.proofs.places.CutLaws.{size-none, size-cut, size-own}
 use Rattle.ring.proofs.broadcasts.first_size.Statement.{statement}
 use Rattle.ring.proofs.broadcasts.first_size.Tie as tie
 

@@ -2,7 +2,7 @@ use mathlib.Core.Path.{sym, _∙_}
 use native.Mathlib.Omega.{arith}
 use borrow.Author.Needs.{needs}
 use borrow.Author.Tests.{not-true, not-false}
-use Rattle.ring.proofs.HearingLaws.{not-reached, reached, handed-fits}
+use Rattle.ring.proofs.places.HearingLaws.{not-reached, reached, handed-fits}
 use Rattle.ring.proofs.broadcasts.hear.Statement.{statement}
 use Rattle.ring.proofs.broadcasts.hear.Tie as tie
 

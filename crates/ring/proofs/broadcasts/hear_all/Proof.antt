@@ -2,8 +2,8 @@ use Prim.Native.Nat.{_+_, _-_, _≤_}
 use native.Mathlib.Omega.{arith}
 use lib.ListN.{length}
 use borrow.Author.Needs.{needs}
-use Rattle.ring.proofs.CutLaws.{first-inside, first-some}
-use Rattle.ring.proofs.HearingLaws.{Hearing, hearing-starts, hearing-goes, hearing-ends}
+use Rattle.ring.proofs.places.CutLaws.{first-inside, first-some}
+use Rattle.ring.proofs.places.HearingLaws.{Hearing, hearing-starts, hearing-goes, hearing-ends}
 use Rattle.ring.proofs.broadcasts.hear_all.Statement.{statement}
 use Rattle.ring.proofs.broadcasts.hear_all.Tie as tie
 

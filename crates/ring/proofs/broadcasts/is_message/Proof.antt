@@ -1,5 +1,5 @@
 use borrow.Author.Needs.{needs}
-use Rattle.ring.proofs.CutLaws.{refused-is, message-is, token-is}
+use Rattle.ring.proofs.places.CutLaws.{refused-is, message-is, token-is}
 use Rattle.ring.proofs.broadcasts.is_message.Statement.{statement}
 use Rattle.ring.proofs.broadcasts.is_message.Tie as tie
 

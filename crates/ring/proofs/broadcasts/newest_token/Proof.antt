@@ -4,7 +4,7 @@ use mathlib.Core.List.{List}
 use native.Mathlib.Omega.{arith}
 use lib.ListN.{length, take, drop, length-take, length-drop}
 use borrow.Author.Needs.{needs}
-use Rattle.ring.proofs.CutLaws.{Last, last-starts, last-goes, last-ends}
+use Rattle.ring.proofs.places.CutLaws.{Last, last-starts, last-goes, last-ends}
 use Rattle.ring.proofs.broadcasts.newest_token.Statement.{statement}
 use Rattle.ring.proofs.broadcasts.newest_token.Tie as tie
 

@@ -6,9 +6,9 @@ use borrow.Author.Needs.{needs}
 use Rattle.station.specs.Answer.{outcomeOf}
 use Rattle.station.specs.Reply.{Reply}
 use Rattle.visit.specs.Output.{followedBy}
-use Rattle.totem.specs.Over.{foundOver}
-use Rattle.ring.proofs.PlaceLaws.{said-at, left-at}
-use Rattle.ring.proofs.FoundingLaws.{own-at}
+use Rattle.station.specs.Over.{foundOver}
+use Rattle.ring.proofs.places.PlaceLaws.{said-at, left-at}
+use Rattle.ring.proofs.places.FoundingLaws.{own-at}
 use Rattle.ring.proofs.founding.found_at.Statement.{statement}
 use Rattle.ring.proofs.founding.found_at.Tie as tie
 
@@ -20,11 +20,11 @@ returns c =
     let end = c .before .before .before .before .before .before .before .end-of in
     let done = c .before .before .before .before .totem-found in
     let at : (P : List ℕ → Type 0) → P _ → P _ = said-at (args .place) (args .records .now) (start .result) (end .result) (start .ensures) (end .ensures) in
-    let reply : List ℕ → Reply = λ s. foundOver s (args .list .now) (own .result) (args .ring) (length (args .token .now)) in
-    own-at (args .place) (args .records .now) (args .list .now) (args .ring) (args .token .now) (own .result) (own .ensures) _ _ _ (
-      at (λ s. done .result ≡ outcomeOf (reply s .answer)) (done .ensures .0),
-      left-at (args .place) (args .records .now) (start .result) (end .result) (start .ensures) (end .ensures) reply _ (done .ensures .1),
-      at (λ s. done .last .1 .1 .1 .1 .0 ≡ followedBy (reply s .frames) (args .token .now)) (done .ensures .2),
+    let reply : List ℕ → Reply = λ s. foundOver s (args .list .now) (own .result) (args .ring .0) (length (args .token .now)) in
+    own-at (args .place) (args .records .now) (args .list .now) (args .ring .0) (args .token .now) (own .result) (own .ensures) _ _ _ (
+      at (λ s. done .result ≡ outcomeOf (reply s .answer)) (done .ensures .answers),
+      left-at (args .place) (args .records .now) (start .result) (end .result) (start .ensures) (end .ensures) reply _ (done .ensures .station),
+      at (λ s. done .last .1 .1 .1 .1 .0 ≡ followedBy (reply s .frames) (args .token .now)) (done .ensures .frames),
     )
 
 pub found-at-spec : {M : Type 1} → statement M

@@ -6,14 +6,14 @@ use lib.ListN.{length}
 use borrow.Author.Needs.{needs}
 use Rattle.record.specs.Layout.{recordSize}
 use Rattle.ring.specs.Stations.{foundedUpTo}
-use Rattle.ring.proofs.FoundingLaws.{founding-goes}
+use Rattle.ring.proofs.places.FoundingLaws.{founding-goes}
 use Rattle.ring.proofs.founding.found_others.Statement.{statement}
 use Rattle.ring.proofs.founding.found_others.Tie as tie
 
 abbrev Inv-loop : tie.InvT-loop
 Inv-loop records₀ list ring n token₀ i₀ records token i = (1 ≤ i) × (1 ≤ n → i ≤ n) × (length records ≡ length records₀) × (length token ≡ 30) × ((before : List ℕ) → 1 ≤ n → recordSize * n ≤ length before
-    → records₀ ≡ foundedUpTo list ring before 1
-    → records ≡ foundedUpTo list ring before i)
+    → records₀ ≡ foundedUpTo list (ring .0) before 1
+    → records ≡ foundedUpTo list (ring .0) before i)
 
 abbrev μ-loop : tie.MeasureT-loop
 μ-loop records₀ list ring n token₀ i₀ records token i = n - i
@@ -30,7 +30,7 @@ loop-again c =
       λ some. omega arith,
       search needs,
       search needs,
-      λ before some room e. founding-goes (args .list .now) (args .ring) before (loop .i) (loop .records) (found .last .0) (omega arith) (loop .inv .4 before some room e)
+      λ before some room e. founding-goes (args .list .now) (args .ring .0) before (loop .i) (loop .records) (found .last .0) (omega arith) (loop .inv .4 before some room e)
           (rw (loop .inv .3) at (found .ensures .1)),
     )
 

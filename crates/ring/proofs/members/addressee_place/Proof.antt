@@ -1,5 +1,5 @@
 use borrow.Author.Needs.{needs}
-use Rattle.ring.proofs.MemberLaws.{addressee-at}
+use Rattle.ring.proofs.places.MemberLaws.{addressee-at}
 use Rattle.ring.proofs.members.addressee_place.Statement.{statement}
 use Rattle.ring.proofs.members.addressee_place.Tie as tie
 

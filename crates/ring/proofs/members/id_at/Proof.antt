@@ -3,8 +3,8 @@ use Prim.Native.Nat.{_<_, _≤_}
 use native.Mathlib.Omega.{arith}
 use lib.ListN.{length, List·getD-eq-default}
 use borrow.Author.Needs.{needs}
-use Rattle.totem.specs.Over.{idsIn}
-use Rattle.ring.proofs.MemberLaws.{id-room, id-there}
+use Rattle.station.specs.Over.{idsIn}
+use Rattle.ring.proofs.places.MemberLaws.{id-room, id-there}
 use Rattle.ring.proofs.members.id_at.Statement.{statement}
 use Rattle.ring.proofs.members.id_at.Tie as tie
 

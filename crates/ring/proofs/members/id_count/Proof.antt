@@ -1,4 +1,4 @@
-use Rattle.ring.proofs.MemberLaws.{ids-odd, ids-even}
+use Rattle.ring.proofs.places.MemberLaws.{ids-odd, ids-even}
 use native.Mathlib.Omega.{arith}
 use Rattle.ring.proofs.members.id_count.Statement.{statement}
 use Rattle.ring.proofs.members.id_count.Tie as tie

@@ -3,9 +3,9 @@ use mathlib.Core.Path.{_≡_, refl, sym, _∙_}
 use native.Mathlib.Omega.{arith}
 use lib.ListN.{length, drop}
 use borrow.Author.Needs.{needs}
-use Rattle.totem.specs.Over.{idsIn}
+use Rattle.station.specs.Over.{idsIn}
 use Rattle.ring.specs.Stations.{placeFrom}
-use Rattle.ring.proofs.MemberLaws.{looking-stops, looking-goes, looking-ends}
+use Rattle.ring.proofs.places.MemberLaws.{looking-stops, looking-goes, looking-ends}
 use Rattle.ring.proofs.members.place_of.Statement.{statement}
 use Rattle.ring.proofs.members.place_of.Tie as tie
 

@@ -6,8 +6,8 @@ use borrow.Author.Needs.{needs}
 use Rattle.station.specs.Answer.{outcomeOf}
 use Rattle.station.specs.Reply.{Reply}
 use Rattle.visit.specs.Output.{followedBy}
-use Rattle.totem.specs.Over.{arriveOver}
-use Rattle.ring.proofs.PlaceLaws.{said-at, left-at}
+use Rattle.station.specs.Over.{arriveOver}
+use Rattle.ring.proofs.places.PlaceLaws.{said-at, left-at}
 use Rattle.ring.proofs.stations.arrive_at.Statement.{statement}
 use Rattle.ring.proofs.stations.arrive_at.Tie as tie
 
@@ -19,10 +19,10 @@ returns c =
     let done = c .before .before .before .before .before .before .totem-arrive in
     let at : (P : List ℕ → Type 0) → P _ → P _ = said-at (args .place) (args .records .now) (start .result) (end .result) (start .ensures) (end .ensures) in
     let reply : List ℕ → Reply = λ s. arriveOver s (args .frame .now) (length (args .frames .now)) (length (args .deliveries .now)) in (
-      at (λ s. done .result ≡ outcomeOf (reply s .answer)) (done .ensures .0),
-      left-at (args .place) (args .records .now) (start .result) (end .result) (start .ensures) (end .ensures) reply _ (done .ensures .1),
-      at (λ s. done .last .1 .1 .0 ≡ followedBy (reply s .frames) (args .frames .now)) (done .ensures .2),
-      at (λ s. done .last .1 .1 .1 .0 ≡ followedBy (reply s .deliveries) (args .deliveries .now)) (done .ensures .3),
+      at (λ s. done .result ≡ outcomeOf (reply s .answer)) (done .ensures .answers),
+      left-at (args .place) (args .records .now) (start .result) (end .result) (start .ensures) (end .ensures) reply _ (done .ensures .station),
+      at (λ s. done .last .1 .1 .0 ≡ followedBy (reply s .frames) (args .frames .now)) (done .ensures .frames),
+      at (λ s. done .last .1 .1 .1 .0 ≡ followedBy (reply s .deliveries) (args .deliveries .now)) (done .ensures .deliveries),
     )
 
 pub arrive-at-spec : {M : Type 1} → statement M

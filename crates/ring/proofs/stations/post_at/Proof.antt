@@ -1,8 +1,8 @@
 use mathlib.Core.Path.{_≡_}
 use borrow.Author.Needs.{needs}
 use Rattle.station.specs.Answer.{outcomeOf}
-use Rattle.totem.specs.Over.{postOver}
-use Rattle.ring.proofs.PlaceLaws.{said-at, left-at}
+use Rattle.station.specs.Over.{postOver}
+use Rattle.ring.proofs.places.PlaceLaws.{said-at, left-at}
 use Rattle.ring.proofs.stations.post_at.Statement.{statement}
 use Rattle.ring.proofs.stations.post_at.Tie as tie
 
@@ -14,10 +14,10 @@ returns c =
     let done = c .before .before .totem-post in (
       said-at (args .place) (args .records .now) (start .result) (end .result) (start .ensures) (end .ensures)
           (λ s. done .result ≡ outcomeOf (postOver s (args .service) (args .content .now) .answer))
-          (done .ensures .0),
+          (done .ensures .answers),
       left-at (args .place) (args .records .now) (start .result) (end .result) (start .ensures) (end .ensures)
           (λ s. postOver s (args .service) (args .content .now)) _
-          (done .ensures .1),
+          (done .ensures .station),
     )
 
 pub post-at-spec : {M : Type 1} → statement M

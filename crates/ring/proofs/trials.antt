@@ -1,0 +1,3 @@
+-- The examples are so.
+pub mod Checked
+pub mod Script

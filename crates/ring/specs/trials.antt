@@ -1,0 +1,2 @@
+-- Examples. Nobody has to believe them.
+pub mod Script
