@@ -30,13 +30,14 @@ use Rattle.station.specs.Arrive.{accepted}
 use Rattle.visit.specs.Acceptable.{coversHeld}
 use Rattle.station.specs.Arrive.{messageArrived, tokenArrived, arrived}
 use Rattle.visit.specs.Within.{framesUpTo, framesIn}
-use Rattle.station.specs.Sample.{Trial, sendersTo, withPosts}
-use Rattle.station.specs.ArrivalTrials.{hearing, visiting, entering}
-use Rattle.station.specs.Trials.{calling, table, allPass}
+use Rattle.visit.specs.trials.Sample.{Trial, sendersTo, allPass}
+use Rattle.station.specs.trials.Sample.{loadedWith}
+use Rattle.station.specs.trials.ArrivalTrials.{hearing, visiting, entering}
+use Rattle.station.specs.trials.Trials.{calling, table}
 
 -- opens all that a row computes with
 unfoldable pub opened : List Trial → Bool
-unfolding flatten wordBytes wordOf wordAt words wordsBytes every headerOf headerFollows headerBytes messageOf messageFollows messageFixed requestsOf requestsFollow tokenOf tokenFollows tokenFixed blankToken readMessage readToken readOf firstBytes everyFrom holds heldWith cleared clearedFrom letGo postsFrom queued taken idsFollow foundable thisRing tokenMembers tokenPasses freshHeld membersPlaced freshLog freshTurn freshPosts fresh heldInRange numbersInRange logInRange turnInRange postsInRange inRange sendersAreMembers resendPasses marksInOrder arusReached heldToLevel nextNotHeld contentsPadded freePlacesZero logUnusedZero postsUnusedZero unusedZero whole firstToken founded posted resent reached levelOf raised frameWith dueFrom due delivered isHad logWithMessage resendEnded messageHeard others allowance those requests repeats unanswered newCount withSent numbersAfter newNumbers highest′ logNow setsAru aru′ blocker′ stall′ deaf safe′ missing requests′ broadcasts round′ nextIn token′ turn′ log′ rec′ written accepted coversHeld messageArrived tokenArrived arrived framesUpTo framesIn sendersTo withPosts allPass
+unfolding flatten wordBytes wordOf wordAt words wordsBytes every headerOf headerFollows headerBytes messageOf messageFollows messageFixed requestsOf requestsFollow tokenOf tokenFollows tokenFixed blankToken readMessage readToken readOf firstBytes everyFrom holds heldWith cleared clearedFrom letGo postsFrom queued taken idsFollow foundable thisRing tokenMembers tokenPasses freshHeld membersPlaced freshLog freshTurn freshPosts fresh heldInRange numbersInRange logInRange turnInRange postsInRange inRange sendersAreMembers resendPasses marksInOrder arusReached heldToLevel nextNotHeld contentsPadded freePlacesZero logUnusedZero postsUnusedZero unusedZero whole firstToken founded posted resent reached levelOf raised frameWith dueFrom due delivered isHad logWithMessage resendEnded messageHeard others allowance those requests repeats unanswered newCount withSent numbersAfter newNumbers highest′ logNow setsAru aru′ blocker′ stall′ deaf safe′ missing requests′ broadcasts round′ nextIn token′ turn′ log′ rec′ written accepted coversHeld messageArrived tokenArrived arrived framesUpTo framesIn sendersTo loadedWith allPass
 opened rows = allPass rows
 
 calling-pass : allPass calling ≡ true

@@ -1,6 +1,7 @@
 pub mod AcceptanceTrials
 pub mod Accessors
 pub mod RefusalLaws
+pub mod OutcomeLaws
 pub mod ReplyLaws
 pub mod DoesLaws
 pub mod LentLaws

@@ -1,6 +1,7 @@
 -- An answer in document 01's terms: the question that is answered 'no', what happened, the output counts in bytes, and the id in the
 -- notice 'deaf'. [document 01, Questions at the door]
 use Prim.Native.Nat.{ℕ}
+use mathlib.Core.Path.{_≡_}
 use mathlib.Core.Bool.{Bool}
 use lib.Dec.{eqb}
 use Rattle.frames.specs.Layout.{shortestToken}
@@ -26,3 +27,7 @@ outcomeOf (Resent n) = happened 7 n 0 0
 -- a call was taken where no question was answered 'no'
 abbrev pub isTaken : Answer → Bool
 isTaken a = eqb (outcomeOf a .refusal) 0
+
+-- the outcome fixes the answer: no two answers have the same numbers
+abbrev pub OutcomeFixes : Type 0
+OutcomeFixes = (a b : Answer) → outcomeOf a ≡ outcomeOf b → a ≡ b

@@ -9,6 +9,4 @@ pub mod Over
 pub mod inner
 pub mod EveryReply
 pub mod EveryArrival
-pub mod Sample
-pub mod ArrivalTrials
-pub mod Trials
+pub mod trials

@@ -21,8 +21,8 @@ pub extern "C" fn totem_found(
         Does outcomeOf (foundOver (now (bytes .entry)) (now (members .entry)) own ring (length (now (token .entry)))) r
         (now (bytes .entry)) (now (bytes .exit)) (now (token .entry)) (now (token .exit)) [] [] ⌝ }
 {
-    let answer = station::found_in(bytes, members, own, RingNumber(ring), token);
-    station::outcome_of(answer)
+    let founded = station::found_in(bytes, members, own, RingNumber(ring), token);
+    station::outcome_of(founded)
 }
 
 // Posting. Ruled out: 9 with an empty queue; a record of another length taken.
@@ -32,8 +32,8 @@ pub extern "C" fn totem_post(bytes: &mut [u8], service: u16, content: &[u8]) -> 
         Does outcomeOf (postOver (now (bytes .entry)) service (now (content .entry))) r
         (now (bytes .entry)) (now (bytes .exit)) [] [] [] [] ⌝ }
 {
-    let answer = station::post_in(bytes, service, content);
-    station::outcome_of(answer)
+    let posted = station::post_in(bytes, service, content);
+    station::outcome_of(posted)
 }
 
 // Arrival. Ruled out: every message 'ahead'; a record written with a refusal.
@@ -50,8 +50,8 @@ pub extern "C" fn totem_arrive(
         (now (bytes .entry)) (now (bytes .exit)) (now (frames .entry)) (now (frames .exit))
         (now (deliveries .entry)) (now (deliveries .exit)) ⌝ }
 {
-    let answer = station::arrive_in(bytes, frame, frames, deliveries);
-    station::outcome_of(answer)
+    let arrived = station::arrive_in(bytes, frame, frames, deliveries);
+    station::outcome_of(arrived)
 }
 
 // Resending. Ruled out: another token written; 2 where the buffer is too small already.
@@ -61,6 +61,6 @@ pub extern "C" fn totem_resend(bytes: &[u8], frames: &mut [u8]) -> Outcome
         Does outcomeOf (resendOver (now (bytes .entry)) (length (now (frames .entry)))) r
         (now (bytes .entry)) (now (bytes .entry)) (now (frames .entry)) (now (frames .exit)) [] [] ⌝ }
 {
-    let answer = station::resend_in(bytes, frames);
-    station::outcome_of(answer)
+    let resent = station::resend_in(bytes, frames);
+    station::outcome_of(resent)
 }

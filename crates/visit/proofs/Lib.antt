@@ -1,3 +1,4 @@
+pub mod AruTrials
 pub mod RingFacts
 pub mod EachLaws
 pub mod WithinLaws

@@ -7,3 +7,4 @@ pub mod Acceptable
 pub mod Within
 pub mod Reads
 pub mod inner
+pub mod trials

@@ -9,6 +9,7 @@ ghost use Rattle.visit.specs.Visit.{mostNew, mostInRound, repeats as Vis
 ghost use Rattle.visit.specs.Acceptable.{visit};
 use frames::Token;
 use record::Head;
+use record::Turn;
 
 // New messages of one visit. The paper's max_messages.
 const MOST_NEW: u32 = 8;
@@ -23,10 +24,12 @@ pub fn others(round: u16, broadcast: u8) -> u32
     words::saturating_sub(round as u32, broadcast as u32)
 }
 
-// 1. The allowance.
-fn allowance(others: u32) -> u32
-    ensures { λ r. ⌜ r ≡ min mostNew (mostInRound - others) ⌝ }
+// 1. The allowance, from the token's round count and what is kept from the last visit. Ruled out: one's own last
+// broadcasts counted; nothing allowed after the first visit.
+fn allowance(round: u16, t: Turn) -> u32
+    ensures { λ r. ⌜ r ≡ min mostNew (mostInRound - (round - t .broadcast)) ⌝ }
 {
+    let others = others(round, t.broadcast);
     words::smaller(MOST_NEW, words::saturating_sub(MOST_IN_ROUND, others))
 }
 
@@ -37,7 +40,7 @@ pub fn new_count(h: Head, s: &[u8], t: Token, repeats: u32) -> u32
     ensures { λ r. ⌜ r ≡ newCount (visit (recordIn h (now (s .entry))) t) ⌝ }
 {
     let highest = t.highest.0;
-    let allowed = words::saturating_sub(allowance(others(t.round, h.turn.broadcast)), repeats);
+    let allowed = words::saturating_sub(allowance(t.round, h.turn), repeats);
     let window = words::saturating_sub(h.log.safe.0 + record::MOST_HELD as u32, highest);
     let numbers = words::saturating_sub(frames::MOST_NUMBER, highest);
     words::smaller(

@@ -13,15 +13,13 @@ returns c = rw (
   c .before .before .before .before .before .saturating-sub2 .ensures,
   c .before .before .before .before .before .before .before .saturating-sub .ensures,
   c .before .before .before .before .before .before .before .before .allowance .ensures,
-  c .before .before .before .before .before .before .before .before .before .others .ensures,
-  c .before .before .before .before .before .before .before .before .before .before .before .pre .0,
+  c .before .before .before .before .before .before .before .before .before .before .pre .0,
 )
 
 pub new-count-spec : {M : Type 1} → statement M
 new-count-spec =
     tie.close
     (tie.spec
-    (λ c κs. search needs)
     (λ c κs. search needs)
     (λ c κs. search needs)
     (λ c. search needs)

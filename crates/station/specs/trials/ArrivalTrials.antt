@@ -13,14 +13,9 @@ use Rattle.visit.specs.Deliver.{entryOf}
 use Rattle.station.specs.Post.{posted}
 use Rattle.station.specs.Resend.{resent}
 use Rattle.station.specs.Arrive.{arrived}
-use Rattle.station.specs.Sample.{Trial, row, yes, rowOf, refusal, outcome, members, station, reachedWith, reachedTo, safeTo, turnWith, bytes, withPosts, messageFrame, tokenFrame, arrives, heard, visited, framesCount, frameAt, tokenLeft, aruLeft, requestsLeft, countsLeft, stallLeft, marks}
-
--- all up to the level held
-abbrev pub level7 : Record
-level7 = reachedTo 7
-
-abbrev pub level10 : Record
-level10 = reachedTo 10
+use Rattle.visit.specs.trials.Sample.{Trial, row, yes, rowOf, members, station, reachedWith, reachedTo, safeTo, turnWith, level7, level10}
+use Rattle.visit.specs.trials.Marks.{marking}
+use Rattle.station.specs.trials.Sample.{refusal, outcome, bytes, loadedWith, messageFrame, tokenFrame, arrives, heard, visited, framesCount, frameAt, tokenLeft, requestsLeft, countsLeft, stallLeft, marks}
 
 abbrev pub level31 : Record
 level31 = reachedTo 31
@@ -73,18 +68,6 @@ messages =
 
 -- ---- a token is accepted
 
-abbrev pub blocking : List Trial
-blocking =
-    -- * highest 10, aru 10, nobody; level 7: leaves 7, blocker 7
-    rowOf (aruLeft (visited level7 4 10 10 Nobody 0 [])) (7 ∷ 7 ∷ [])
-    -- * highest 10, aru 5, blocker 9; level 7: leaves 5, blocker 9
-    ∷ rowOf (aruLeft (visited level7 4 10 5 (Member 9) 0 [])) (5 ∷ 9 ∷ [])
-    -- * highest 10, aru 5, blocker 7; level 10: leaves 10, nobody
-    ∷ rowOf (aruLeft (visited level10 4 10 5 (Member 7) 0 [])) (10 ∷ 0 ∷ [])
-    -- the level below the aru, with another as blocker: leaves the level, blocker 7
-    ∷ rowOf (aruLeft (visited level7 4 10 9 (Member 9) 0 [])) (7 ∷ 7 ∷ [])
-    ∷ []
-
 -- the station has forwarded 10, in token 5
 abbrev pub forwarded : Reply
 forwarded = visited level10 4 10 10 Nobody 0 []
@@ -105,22 +88,19 @@ forwarding =
     ∷ row (tokenLeft (arrives (fresh members 9 4) (tokenFrame 4 9 4 0 0 Nobody 0 [])) .addressee) 3
     -- after one forwarding nothing is safe; all is delivered
     ∷ rowOf (marks forwarded) (10 ∷ 0 ∷ 10 ∷ [])
-    -- * forwarded 10, then 7: safe mark 7
+    -- everything up to the safe mark is let go
     ∷ rowOf (marks then7) (10 ∷ 7 ∷ 10 ∷ [])
-    -- it never falls
-    ∷ rowOf (marks (visited (then7 .rec) 10 10 5 (Member 9) 0 [])) (10 ∷ 7 ∷ 10 ∷ [])
-    -- everything up to it is let go
     ∷ row (yes (holds (then7 .rec .log) 7)) 0
     ∷ row (yes (holds (then7 .rec .log) 8)) 1
     ∷ []
 
 -- round count 30, own last 10, three repeats, ten posts
 abbrev pub busy : Reply
-busy = visited (withPosts 10 (reachedWith 10 (turnWith 0 10 0))) 4 10 10 Nobody 30 (3 ∷ 1 ∷ 2 ∷ [])
+busy = visited (loadedWith 10 (reachedWith 10 (turnWith 0 10 0))) 4 10 10 Nobody 30 (3 ∷ 1 ∷ 2 ∷ [])
 
 -- ten posts wait, at level 10
 abbrev pub loaded : Record
-loaded = withPosts 10 level10
+loaded = loadedWith 10 level10
 
 abbrev pub flow : List Trial
 flow =
@@ -137,9 +117,9 @@ flow =
     ∷ rowOf (countsLeft (visited loaded 4 10 10 Nobody 24 [])) (1 ∷ 10 ∷ 24 ∷ 10 ∷ [])
     -- 8 new at most; safe mark + 32; 2,000,000,000; the posts
     ∷ rowOf (countsLeft (visited loaded 4 10 10 Nobody 0 [])) (9 ∷ 18 ∷ 8 ∷ 2 ∷ [])
-    ∷ rowOf (countsLeft (visited (withPosts 10 level31) 4 31 31 Nobody 0 [])) (2 ∷ 32 ∷ 1 ∷ 9 ∷ [])
-    ∷ rowOf (countsLeft (visited (withPosts 2 (safeTo 1999999999)) 4 1999999999 1999999999 Nobody 0 [])) (2 ∷ 2000000000 ∷ 1 ∷ 1 ∷ [])
-    ∷ rowOf (countsLeft (visited (withPosts 2 level10) 4 10 10 Nobody 0 [])) (3 ∷ 12 ∷ 2 ∷ 0 ∷ [])
+    ∷ rowOf (countsLeft (visited (loadedWith 10 level31) 4 31 31 Nobody 0 [])) (2 ∷ 32 ∷ 1 ∷ 9 ∷ [])
+    ∷ rowOf (countsLeft (visited (loadedWith 2 (safeTo 1999999999)) 4 1999999999 1999999999 Nobody 0 [])) (2 ∷ 2000000000 ∷ 1 ∷ 1 ∷ [])
+    ∷ rowOf (countsLeft (visited (loadedWith 2 level10) 4 10 10 Nobody 0 [])) (3 ∷ 12 ∷ 2 ∷ 0 ∷ [])
     ∷ []
 
 -- the size of the frame in which a content of n bytes is broadcast
@@ -294,7 +274,7 @@ abbrev pub hearing : List Trial
 hearing = samples ++ messages ++ delivering
 
 abbrev pub visiting : List Trial
-visiting = blocking ++ forwarding ++ flow ++ contents ++ stalling ++ requesting
+visiting = marking ++ forwarding ++ flow ++ contents ++ stalling ++ requesting
 
 abbrev pub entering : List Trial
 entering = door ++ resendings

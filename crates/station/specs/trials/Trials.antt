@@ -1,10 +1,9 @@
 -- Document 01's trials and their edges: a table of tests and the number that each gives. Those of arrival stand in ArrivalTrials.antt;
 -- the specification's own are marked by a star. proofs/AcceptanceTrials.antt has the one theorem that every row passes. [document 01, Trials]
 use Prim.Native.Nat.{ℕ, _-_}
-use mathlib.Core.Bool.{Bool, true, false, _&&_}
+use mathlib.Core.Bool.{true, false}
 use mathlib.Core.List.{List, [], _∷_, _++_}
 use lib.ListN.{replicate}
-use lib.Dec.{eqb}
 use Rattle.record.specs.Layout.{recordSize}
 use Rattle.frames.specs.Layout.{shortestToken, longestToken}
 use Rattle.frames.specs.Trials.{firstBytes}
@@ -16,8 +15,9 @@ use Rattle.visit.specs.Output.{mostFrames, mostDeliveries}
 use Rattle.station.specs.Found.{founded}
 use Rattle.station.specs.Post.{posted}
 use Rattle.station.specs.Resend.{resent}
-use Rattle.station.specs.Sample.{Trial, row, rowOf, refusal, outcome, station, bytes, withPosts}
-use Rattle.station.specs.ArrivalTrials.{hearing, visiting, entering}
+use Rattle.visit.specs.trials.Sample.{Trial, row, rowOf, station}
+use Rattle.station.specs.trials.Sample.{refusal, outcome, bytes, loadedWith}
+use Rattle.station.specs.trials.ArrivalTrials.{hearing, visiting, entering}
 
 abbrev pub foundedBy : List ℕ → ℕ → ℕ → Reply
 foundedBy ids own ring = founded station true ids own ring
@@ -79,8 +79,8 @@ posting =
     ∷ row (refusal (posted station 2 [])) 8
     ∷ row (refusal (posted station 2 (bytes 65))) 7
     -- the sixteenth post is taken; the seventeenth: 9
-    ∷ row (outcome (posted (withPosts 15 station) 0 [])) 2
-    ∷ row (refusal (posted (withPosts 16 station) 0 [])) 9
+    ∷ row (outcome (posted (loadedWith 15 station) 0 [])) 2
+    ∷ row (refusal (posted (loadedWith 16 station) 0 [])) 9
     -- a record that isn't whole: founded by one alone
     ∷ row (refusal (posted (fresh (7 ∷ []) 7 4) 2 (bytes 65))) 2
     ∷ []
@@ -100,10 +100,6 @@ resending =
 -- the sizes that hosts know
 abbrev pub sizes : List Trial
 sizes = row recordSize 3425 ∷ row mostFrames 1470 ∷ row mostDeliveries 2752 ∷ []
-
-unfoldable pub allPass : List Trial → Bool
-allPass [] = true
-allPass (t ∷ ts) = eqb (t .gives) (t .wanted) && allPass ts
 
 -- of the other calls
 abbrev pub calling : List Trial
