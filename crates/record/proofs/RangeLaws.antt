@@ -10,12 +10,11 @@ use Rattle.words.specs.Scan.{allWithin}
 use Rattle.frames.specs.Number.{mostNumber, mostId}
 use Rattle.frames.specs.Layout.{mostService, mostContent, longestToken}
 use Rattle.record.specs.Size.{mostMembers, mostHeld, mostPosts, mostBroadcasts, mostStall, heldContents, postContents}
-use Rattle.record.specs.Whole.{heldInRange, numbersInRange, logInRange, turnInRange, postsInRange, inRange}
+use Rattle.record.specs.Whole.{heldInRange, numbersInRange, logInRange, turnInRange, postsInRange}
 use Rattle.record.specs.declared.log.Held.{Held}
 use Rattle.record.specs.declared.log.Log.{Log}
 use Rattle.record.specs.declared.turn.Turn.{Turn}
 use Rattle.record.specs.declared.posts.Posts.{Posts}
-use Rattle.record.specs.declared.Record.{Record}
 use Rattle.record.proofs.ListLaws.{all-within}
 use Rattle.record.proofs.CountLaws.{all-pass}
 
@@ -73,9 +72,3 @@ pub posts-tested : (p : Posts) → length (p .services) ≡ mostPosts → length
 unfolding postsInRange
 posts-tested p e1 e2 e3 a b ea eb =
     rw (eq-eqb (length (p .services)) mostPosts e1, eq-eqb (length (p .lengths)) mostPosts e2, eq-eqb (length (p .contents)) postContents e3, ea, eb)
-
-pub record-tested : (r : Record) → r .own ≤ mostId
-    → (a b c : Bool) → a ≡ logInRange (r .log) → b ≡ turnInRange (r .turn) → c ≡ postsInRange (r .posts)
-    → (a && b && c) ≡ inRange r
-unfolding inRange
-record-tested r h a b c ea eb ec = rw (le-leb (r .own) mostId h, ea, eb, ec)
