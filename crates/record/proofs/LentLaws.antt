@@ -12,7 +12,7 @@ use Rattle.record.specs.Count.{everyFrom}
 use Rattle.record.specs.Members.{foundable}
 use Rattle.record.specs.Size.{postContents}
 use Rattle.record.specs.Layout.{recordSize, logAt, postsAt, heldMessagesAt, heldContentsAt, postContentsAt}
-use Rattle.record.specs.Head.{recordOn, recordIn, recordHead, contentsIn, waitingIn}
+use Rattle.record.specs.inner.Head.{recordOn, recordIn, recordHead, contentsIn, waitingIn}
 use Rattle.record.specs.declared.head.Head.{Head}
 use Rattle.record.specs.Fresh.{freshHeld, membersPlaced, freshLog, fresh}
 use Rattle.record.specs.Whole.{heldInRange, numbersInRange, logInRange, sendersAreMembers, logWhole, whole}

@@ -9,7 +9,7 @@ use lib.Seq.{sets, sets-eq, length-take-le, take-append-le, drop-append-le, take
 use Rattle.frames.specs.Layout.{mostContent}
 use Rattle.record.specs.Size.{mostPosts, heldContents, postContents}
 use Rattle.record.specs.Layout.{logAt, postsAt, heldMessagesAt, heldContentsAt, postContentsAt, recordSize}
-use Rattle.record.specs.Head.{contentsIn, waitingIn}
+use Rattle.record.specs.inner.Head.{contentsIn, waitingIn}
 use Rattle.record.proofs.ListLaws.{part-before, part-after, part-written}
 
 -- the part is stored where it stood

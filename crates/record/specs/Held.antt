@@ -47,10 +47,6 @@ holds l number = inWindow l number && inUse (l .held) (placeOf number)
 unfoldable pub heldAt : Log → ℕ → Option Entry
 heldAt l number = cond (holds l number) (some (entryAt (l .held) (placeOf number))) none
 
--- the messages that these arrays hold
-abbrev pub heldFrom : List ℕ → List ℕ → List ℕ → List ℕ → Held
-heldFrom senders services lengths contents = record { senders = senders; services = services; lengths = lengths; contents = contents }
-
 -- ---- a message is held under a number
 
 unfoldable pub heldWith : Held → ℕ → Entry → Held

@@ -9,7 +9,7 @@ ghost use Rattle.record.specs.Size.{mostPosts};
 ghost use Rattle.record.specs.Held.{placeOf, stored, letGo};
 ghost use Rattle.record.specs.Posts.{taken};
 ghost use Rattle.record.specs.Layout.{recordSize, logAt, postsAt};
-ghost use Rattle.record.specs.Head.{logOn, postsOn, contentsIn, waitingIn, recordHead};
+ghost use Rattle.record.specs.inner.Head.{logOn, postsOn, contentsIn, waitingIn, recordHead};
 ghost use Rattle.record.specs.Lent.{lent, bytesWhole};
 use crate::bytes;
 use crate::fresh;

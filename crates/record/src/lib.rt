@@ -32,6 +32,7 @@ pub use head::LogHead;
 pub use head::PostsHead;
 pub use head::head_with;
 pub use head::marked;
+pub use head::with_parts;
 pub use held::is_held;
 pub use held::numbers_before;
 pub use layout::RECORD_SIZE;

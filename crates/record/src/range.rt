@@ -4,7 +4,7 @@ ghost use Prim.Native.Nat.{_≤_};
 ghost use lib.ListN.{length};
 ghost use Rattle.frames.specs.Number.{mostNumber};
 ghost use Rattle.record.specs.Size.{heldContents, postContents};
-ghost use Rattle.record.specs.Head.{heldOn, logOn, postsOn};
+ghost use Rattle.record.specs.inner.Head.{heldOn, logOn, postsOn};
 ghost use Rattle.record.specs.Whole.{heldInRange, numbersInRange, logInRange, turnInRange, postsInRange};
 use crate::head::LogHead;
 use crate::head::PostsHead;

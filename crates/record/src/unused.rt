@@ -8,7 +8,7 @@ ghost use Rattle.words.specs.Scan.{allZero};
 ghost use Rattle.frames.specs.Layout.{mostContent};
 ghost use Rattle.record.specs.Size.{heldContents, postContents};
 ghost use Rattle.record.specs.Count.{everyFrom};
-ghost use Rattle.record.specs.Head.{heldOn, logOn, postsOn};
+ghost use Rattle.record.specs.inner.Head.{heldOn, logOn, postsOn};
 ghost use Rattle.record.specs.Whole.{contentsPadded, freePlacesZero, logUnusedZero, postsUnusedZero, turnUnusedZero};
 use crate::head::LogHead;
 use crate::head::PostsHead;

@@ -8,7 +8,7 @@ ghost use lib.ListN.{length};
 ghost use Rattle.frames.specs.Number.{mostNumber};
 ghost use Rattle.frames.specs.Layout.{longestToken};
 ghost use Rattle.record.specs.Size.{mostMembers, heldContents, postContents};
-ghost use Rattle.record.specs.Head.{logOn, postsOn, recordOn};
+ghost use Rattle.record.specs.inner.Head.{logOn, postsOn, recordOn};
 ghost use Rattle.record.specs.Whole.{sendersAreMembers, resendPasses, marksInOrder, arusReached, heldToLevel, nextNotHeld, logWhole, turnWhole, postsWhole, whole};
 use crate::Record;
 use crate::head;

@@ -1,7 +1,7 @@
 use Prim.Native.Nat.{_<_}
 use native.Mathlib.Omega.{arith}
 use borrow.Author.Needs.{needs}
-use Rattle.record.specs.Head.{recordOn}
+use Rattle.record.specs.inner.Head.{recordOn}
 use Rattle.record.specs.declared.Record.{Record}
 use Rattle.record.proofs.WholeLaws.{whole-refused, members-few, whole-tested}
 use Rattle.record.proofs.whole.is_whole_on.Statement.{statement}

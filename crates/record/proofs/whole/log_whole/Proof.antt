@@ -2,7 +2,7 @@ use Prim.Native.Nat.{_-_}
 use native.Mathlib.Omega.{arith}
 use lib.Seq.{length-take-le}
 use borrow.Author.Needs.{needs}
-use Rattle.record.specs.Head.{logOn}
+use Rattle.record.specs.inner.Head.{logOn}
 use Rattle.record.specs.declared.log.Log.{Log}
 use Rattle.record.proofs.RangeFacts.{LogRange}
 use Rattle.record.proofs.WholeLaws.{log-refused, log-ranged, log-whole-tested}

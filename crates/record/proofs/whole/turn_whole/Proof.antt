@@ -3,7 +3,7 @@ use native.Mathlib.Omega.{arith}
 use lib.ListN.{length}
 use borrow.Author.Needs.{needs}
 use Rattle.record.specs.Size.{mostMembers}
-use Rattle.record.specs.Head.{logOn}
+use Rattle.record.specs.inner.Head.{logOn}
 use Rattle.record.specs.declared.log.Log.{Log}
 use Rattle.record.proofs.WholeLaws.{turn-refused, turn-ranged, turn-whole-tested}
 use Rattle.record.proofs.whole.turn_whole.Statement.{statement}
