@@ -1,6 +1,6 @@
 -- A fresh record: members placed one by one, and that it is whole.
 use Prim.Native.Nat.{ℕ, suc, _+_, _-_, _<_, _≤_}
-use mathlib.Core.Path.{_≡_, refl, _∙_}
+use mathlib.Core.Path.{_≡_, refl, sym, _∙_}
 use mathlib.Core.Bool.{true}
 use mathlib.Core.List.{List}
 use borrow.Author.Tests.{le-leb, eq-eqb}
@@ -19,6 +19,7 @@ use Rattle.record.specs.declared.log.Log.{Log}
 use Rattle.record.specs.Whole.{heldInRange, numbersInRange, logInRange, turnInRange, postsInRange, sendersAreMembers, resendPasses, marksInOrder, arusReached, heldToLevel, nextNotHeld, contentsPadded, freePlacesZero, logUnusedZero, postsUnusedZero, turnUnusedZero, logWhole, turnWhole, postsWhole, whole}
 use Rattle.record.proofs.MemberLaws.{foundable-facts, own-most}
 use Rattle.record.proofs.ListLaws.{most-zeros, all-within}
+use Rattle.record.proofs.RangeLaws.{numbers-below}
 
 -- ---- a loop that places the members
 
@@ -63,9 +64,13 @@ module _ (ids : List ℕ) (own ring : ℕ) where
   abbrev log : Log
   log = freshLog ids ring
 
+  numbers-in-range : numbersInRange log ≡ true
+  unfolding freshLog
+  numbers-in-range = sym (numbers-below log (omega arith))
+
   log-in-range : length ids ≤ mostMembers → logInRange log ≡ true
-  unfolding logInRange heldInRange numbersInRange freshLog freshHeld every everyFrom
-  log-in-range few = rw (eq-eqb _ _ (placed-length ids few), le-leb _ _ few)
+  unfolding logInRange heldInRange freshLog freshHeld every
+  log-in-range few = rw (eq-eqb _ _ (placed-length ids few), le-leb _ _ few, numbers-in-range)
 
   senders-members : sendersAreMembers (idsOf log) (log .held .senders) ≡ true
   unfolding sendersAreMembers freshLog freshHeld every

@@ -12,7 +12,7 @@ use Rattle.frames.specs.Layout.{mostService, mostContent, longestToken}
 use Rattle.record.specs.Size.{mostMembers, mostHeld, mostPosts, mostBroadcasts, mostStall, heldContents, postContents}
 use Rattle.record.specs.Count.{everyFrom}
 use Rattle.record.specs.Contents.{padding}
-use Rattle.record.specs.Held.{placeOf, inUse, holds}
+use Rattle.record.specs.Held.{inUse, holds, heldNumbers}
 use Rattle.record.specs.Turn.{mayResend, remembered}
 use Rattle.record.specs.Members.{isMember, foundable}
 use Rattle.record.specs.Ring.{current, ids, tokenPasses}
@@ -34,9 +34,9 @@ heldInRange h =
     && allWithin 0 mostService (h .services)
     && allWithin 0 mostContent (h .lengths)
 
--- no held number is above 2,000,000,000
+-- held numbers are 1 to 2,000,000,000
 unfoldable pub numbersInRange : Log → Bool
-numbersInRange l = everyFrom (λ n. leb n mostNumber || not (inUse (l .held) (placeOf n))) (suc (l .safe .0)) mostHeld
+numbersInRange l = allWithin 1 mostNumber (heldNumbers l)
 
 unfoldable pub logInRange : Log → Bool
 logInRange l =
