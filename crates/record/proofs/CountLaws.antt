@@ -116,3 +116,14 @@ all-pass test first (suc n) p = rw (rw (add-zero first) at (p 0 (omega arith)), 
     later i h =
         let s : first + suc i ≡ suc first + i = omega arith in
         rw s at (p (suc i) (omega arith))
+
+-- two tests that agree on the run
+pub all-same : (test other : ℕ → Bool) (first n : ℕ) → ((i : ℕ) → i < n → test (first + i) ≡ other (first + i)) → everyFrom test first n ≡ everyFrom other first n
+unfolding everyFrom
+all-same test other first zero p = refl
+all-same test other first (suc n) p = rw (rw (add-zero first) at (p 0 (omega arith)), all-same test other (suc first) n later)
+  where
+    later : (i : ℕ) → i < n → test (suc first + i) ≡ other (suc first + i)
+    later i h =
+        let s : first + suc i ≡ suc first + i = omega arith in
+        rw s at (p (suc i) (omega arith))

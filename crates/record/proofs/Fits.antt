@@ -15,14 +15,14 @@ use Rattle.frames.proofs.Facts.{part}
 use Rattle.record.specs.Size.{mostMembers}
 use Rattle.record.specs.Members.{idsFollow, foundable}
 use Rattle.record.specs.Ring.{ids}
-use Rattle.record.specs.Whole.{inRange, logUnusedZero, unusedZero, whole}
+use Rattle.record.specs.Whole.{logInRange, turnInRange, postsInRange, logUnusedZero, logWhole, turnWhole, postsWhole, whole}
 use Rattle.record.specs.declared.log.Held.{Held}
 use Rattle.record.specs.declared.log.Log.{Log}
 use Rattle.record.specs.declared.turn.Turn.{Turn}
 use Rattle.record.specs.declared.posts.Posts.{Posts}
 use Rattle.record.specs.declared.Record.{Record}
 use Rattle.record.proofs.ListLaws.{most-append}
-use Rattle.record.proofs.RangeFacts.{HeldRange, LogRange, TurnRange, PostsRange, record-range}
+use Rattle.record.proofs.RangeFacts.{HeldRange, LogRange, TurnRange, PostsRange, log-range, turn-range, posts-range}
 use Rattle.record.proofs.Arrays.{HeldArrays, PostsArrays, RecordArrays}
 
 -- every element is a word of w bytes
@@ -116,18 +116,21 @@ members-most l first rest =
     rw take-append-drop at (most-append mostId (ids l) (drop (l .count) (l .members)) most zeros)
 
 pub whole-fits : (r : Record) → whole r ≡ true → RecordFits r
-unfolding whole foundable idsFollow unusedZero logUnusedZero
+unfolding whole logWhole turnWhole postsWhole foundable idsFollow logUnusedZero
 whole-fits r e =
-    let g = record-range r (part e (λ (f : inRange r ≡ false). rw f)) in
     let l = r .log in
+    let own : r .own ≤ mostId = leb-true (r .own) mostId (part e (λ (f : leb (r .own) mostId ≡ false). rw f)) in
+    let log = log-range l (part e (λ (f : logInRange l ≡ false). simp (f, and-false))) in
+    let turn = turn-range (r .turn) (part e (λ (f : turnInRange (r .turn) ≡ false). simp (f, and-false))) in
+    let posts = posts-range (r .posts) (part e (λ (f : postsInRange (r .posts) ≡ false). simp (f, and-false))) in
     let ring : l .ring .0 ≤ mostNumber = leb-true (l .ring .0) mostNumber (part e (λ (f : leb (l .ring .0) mostNumber ≡ false). simp (f, and-false))) in
     let first : allWithin 1 mostId (ids l) ≡ true = part e (λ (f : allWithin 1 mostId (ids l) ≡ false). simp (f, and-false)) in
     let rest : allZero (drop (l .count) (l .members)) ≡ true = part e (λ (f : allZero (drop (l .count) (l .members)) ≡ false). simp (f, and-false)) in
     record {
-      own = omega (arith, g .own);
-      log = log-fits l (g .log) ring (members-most l first rest);
-      turn = turn-fits (r .turn) (g .turn);
-      posts = posts-fits (r .posts) (g .posts);
+      own = omega (arith, own);
+      log = log-fits l log ring (members-most l first rest);
+      turn = turn-fits (r .turn) turn;
+      posts = posts-fits (r .posts) posts;
     }
 
 -- ---- arrays of the lengths that the sizes ask for

@@ -1,6 +1,6 @@
 -- A fresh record: members placed one by one, and that it is whole.
 use Prim.Native.Nat.{ℕ, suc, _+_, _-_, _<_, _≤_}
-use mathlib.Core.Path.{_≡_, refl, _∙_}
+use mathlib.Core.Path.{_≡_, refl, sym, _∙_}
 use mathlib.Core.Bool.{true}
 use mathlib.Core.List.{List}
 use borrow.Author.Tests.{le-leb, eq-eqb}
@@ -16,9 +16,10 @@ use Rattle.record.specs.Members.{foundable}
 use Rattle.record.specs.Fresh.{freshHeld, membersPlaced, freshLog, freshTurn, freshPosts, fresh}
 use Rattle.record.specs.Ring.{ids as idsOf}
 use Rattle.record.specs.declared.log.Log.{Log}
-use Rattle.record.specs.Whole.{heldInRange, numbersInRange, logInRange, turnInRange, postsInRange, inRange, sendersAreMembers, resendPasses, marksInOrder, arusReached, heldToLevel, nextNotHeld, contentsPadded, freePlacesZero, logUnusedZero, postsUnusedZero, unusedZero, whole}
-use Rattle.record.proofs.MemberLaws.{FoundableFacts, foundable-facts, own-most}
+use Rattle.record.specs.Whole.{heldInRange, numbersInRange, logInRange, turnInRange, postsInRange, sendersAreMembers, resendPasses, marksInOrder, arusReached, heldToLevel, nextNotHeld, contentsPadded, freePlacesZero, logUnusedZero, postsUnusedZero, turnUnusedZero, logWhole, turnWhole, postsWhole, whole}
+use Rattle.record.proofs.MemberLaws.{foundable-facts, own-most}
 use Rattle.record.proofs.ListLaws.{most-zeros, all-within}
+use Rattle.record.proofs.RangeLaws.{numbers-below}
 
 -- ---- a loop that places the members
 
@@ -43,6 +44,10 @@ placed-all ids members i e h = e ∙ rw (take-all i ids h)
 
 -- ---- a fresh record is whole
 
+posts-whole : postsWhole freshPosts ≡ true
+unfolding postsWhole postsInRange postsUnusedZero contentsPadded freshPosts every everyFrom
+posts-whole = refl
+
 placed-length : (ids : List ℕ) → length ids ≤ mostMembers → length (membersPlaced ids) ≡ mostMembers
 unfolding membersPlaced
 placed-length ids few = length-append ids (replicate (mostMembers - length ids) 0) ∙ rw length-replicate (omega arith)
@@ -55,43 +60,42 @@ placed-rest : (ids : List ℕ) → allZero (drop (length ids) (membersPlaced ids
 unfolding membersPlaced
 placed-rest ids = rw (drop-append-seam ids (replicate (mostMembers - length ids) 0)) (all-within 0 (replicate (mostMembers - length ids) 0) (most-zeros 0 (mostMembers - length ids)))
 
-module _ (ids : List ℕ) (ring : ℕ) where
-  log-in-range : length ids ≤ mostMembers → logInRange (freshLog ids ring) ≡ true
-  unfolding logInRange heldInRange numbersInRange freshLog freshHeld every everyFrom
-  log-in-range few = rw (eq-eqb _ _ (placed-length ids few), le-leb _ _ few)
+module _ (ids : List ℕ) (own ring : ℕ) where
+  abbrev log : Log
+  log = freshLog ids ring
 
-  log-unused : logUnusedZero (freshLog ids ring) ≡ true
+  numbers-in-range : numbersInRange log ≡ true
+  unfolding freshLog
+  numbers-in-range = sym (numbers-below log (omega arith))
+
+  log-in-range : length ids ≤ mostMembers → logInRange log ≡ true
+  unfolding logInRange heldInRange freshLog freshHeld every
+  log-in-range few = rw (eq-eqb _ _ (placed-length ids few), le-leb _ _ few, numbers-in-range)
+
+  senders-members : sendersAreMembers (idsOf log) (log .held .senders) ≡ true
+  unfolding sendersAreMembers freshLog freshHeld every
+  senders-members = refl
+
+  log-founded : foundable ids own ring ≡ true → foundable (idsOf log) own (log .ring .0) ≡ true
+  unfolding freshLog
+  log-founded e = rw (placed-front ids, e)
+
+  log-marks : (marksInOrder log ≡ true) × (heldToLevel log ≡ true) × (nextNotHeld log ≡ true)
+  unfolding marksInOrder heldToLevel nextNotHeld holds freshLog freshHeld everyFrom
+  log-marks = (refl, refl, refl)
+
+  log-unused : logUnusedZero log ≡ true
   unfolding logUnusedZero freePlacesZero contentsPadded freshLog freshHeld every everyFrom
   log-unused = rw (placed-rest ids)
 
-module _ (ids : List ℕ) (own ring : ℕ) where
-  fresh-in-range : FoundableFacts ids own → inRange (fresh ids own ring) ≡ true
-  unfolding inRange turnInRange postsInRange fresh freshTurn freshPosts every
-  fresh-in-range f = rw (le-leb _ _ (own-most ids own f), log-in-range ids ring (f .few))
+  log-whole : foundable ids own ring ≡ true → logWhole own log ≡ true
+  unfolding logWhole
+  log-whole e = rw (log-in-range (foundable-facts ids own ring e .few), senders-members, log-founded e, log-marks .0, log-marks .1, log-marks .2, log-unused)
 
-  abbrev log : Log
-  log = fresh ids own ring .log
-
-  fresh-senders : sendersAreMembers (idsOf log) (log .held .senders) ≡ true
-  unfolding sendersAreMembers fresh freshLog freshHeld every
-  fresh-senders = refl
-
-  fresh-leave : resendPasses (log .ring .0) (idsOf log) (fresh ids own ring .turn) ≡ true
-  unfolding resendPasses fresh freshTurn
-  fresh-leave = refl
-
-  fresh-founded : foundable ids own ring ≡ true → foundable (idsOf log) (fresh ids own ring .own) (log .ring .0) ≡ true
-  unfolding fresh freshLog
-  fresh-founded e = rw (placed-front ids, e)
-
-  fresh-marks : (marksInOrder log ≡ true) × (arusReached (fresh ids own ring .turn) (log .level .0) ≡ true) × (heldToLevel log ≡ true) × (nextNotHeld log ≡ true)
-  unfolding marksInOrder arusReached heldToLevel nextNotHeld holds fresh freshLog freshHeld freshTurn everyFrom
-  fresh-marks = (refl, refl, refl, refl)
-
-  fresh-unused : unusedZero (fresh ids own ring) ≡ true
-  unfolding unusedZero postsUnusedZero contentsPadded fresh freshTurn freshPosts every everyFrom
-  fresh-unused = rw (log-unused ids ring)
+  turn-whole : turnWhole log freshTurn ≡ true
+  unfolding turnWhole turnInRange resendPasses arusReached turnUnusedZero freshLog freshTurn every
+  turn-whole = refl
 
   pub fresh-whole : foundable ids own ring ≡ true → whole (fresh ids own ring) ≡ true
-  unfolding whole
-  fresh-whole e = rw (fresh-in-range (foundable-facts ids own ring e), fresh-senders, fresh-leave, fresh-founded e, fresh-marks .0, fresh-marks .1, fresh-marks .2, fresh-marks .3, fresh-unused)
+  unfolding whole fresh
+  fresh-whole e = rw (le-leb _ _ (own-most ids own (foundable-facts ids own ring e)), log-whole e, turn-whole, posts-whole)

@@ -11,7 +11,7 @@ use Rattle.frames.specs.Layout.{longestToken}
 use Rattle.record.specs.Size.{mostMembers, mostHeld, mostPosts, heldContents}
 use Rattle.record.specs.Layout.{ownAt, logAt, turnAt, postsAt, logRingAt, memberCountAt, membersAt, levelAt, safeAt, deliveredAt, heldMessagesAt, sendersAt, heldServicesAt, heldLengthsAt, heldContentsAt, turnAruAt, earlierAt, turnNumberAt, broadcastAt, stallAt, tokenSizeAt, tokenAt, postCountAt, postServicesAt, postLengthsAt, postContentsAt}
 use Rattle.record.specs.Bytes.{bytesAt, heldOf, logOf, turnOf, postsOf, recordOf}
-use Rattle.record.specs.Head.{logOn, postsOn, recordOn, contentsIn, waitingIn}
+use Rattle.record.specs.inner.Head.{logOn, postsOn, recordOn, contentsIn, waitingIn}
 use Rattle.record.specs.declared.head.LogHead.{LogHead}
 use Rattle.record.specs.declared.head.PostsHead.{PostsHead}
 use Rattle.record.specs.declared.head.Head.{Head}

@@ -1,21 +1,20 @@
 -- The tests of the held messages in a whole record, and what they tell.
 use Prim.Native.Nat.{ℕ, zero, suc, _+_, _-_, _<_, _≤_}
-use mathlib.Core.Path.{_≡_, refl}
+use mathlib.Core.Path.{_≡_, refl, sym, _∙_}
 use mathlib.Core.Logic.{_≢_}
 use mathlib.Core.Bool.{Bool, true, false, not, _||_, _&&_, false≢true, or-true, and-false}
 use mathlib.Core.List.{List, [], _∷_}
 use borrow.Author.Tests.{leb-true, eqb-true, eqb-false, le-leb, eq-eqb, ne-eqb, not-false}
 use native.Mathlib.Nat.{zero-add}
-use native.Mathlib.Decide.{ℕ-discrete}
 use native.Mathlib.Omega.{arith}
 use lib.ListN.{length, getD}
 use lib.Dec.{leb, eqb}
-use Rattle.words.specs.Scan.{every}
+use Rattle.words.specs.Scan.{every, allWithin}
 use Rattle.frames.specs.Number.{mostNumber, mostId}
 use Rattle.frames.specs.Layout.{mostService, mostContent}
 use Rattle.frames.proofs.Facts.{part}
 use Rattle.record.specs.Size.{mostHeld, heldContents}
-use Rattle.record.specs.Held.{placeOf, inUse, holds}
+use Rattle.record.specs.Held.{inUse, holds, heldNumbers}
 use Rattle.record.specs.Members.{isMember}
 use Rattle.record.specs.Whole.{heldInRange, numbersInRange, sendersAreMembers, heldToLevel, freePlacesZero}
 use Rattle.record.specs.declared.log.Held.{Held}
@@ -23,7 +22,8 @@ use Rattle.record.specs.declared.log.Log.{Log}
 use Rattle.record.proofs.CountLaws.{each-passes, run-passes, all-pass}
 use Rattle.record.proofs.ListLaws.{all-within}
 use Rattle.record.proofs.RangeFacts.{HeldRange}
-use Rattle.record.proofs.LogWhole.{Holding, holding, held-when, either}
+use Rattle.record.proofs.HeldNumbers.{held-within}
+use Rattle.record.proofs.LogWhole.{holding, either}
 
 -- ---- either of two tests
 
@@ -101,28 +101,28 @@ module _ (h : Held) where
 
 -- ---- the log
 
+module _ (l : Log) (most : ℕ) where
+  pub within-held : allWithin 1 most (heldNumbers l) ≡ true → (n : ℕ) → holds l n ≡ true → n ≤ most
+  within-held e n held =
+      let h = holding l n held in
+      leb-true n most (first-of (leb n most) (holds l n) (run-passes (λ k. leb k most || not (holds l k)) (l .safe .0) mostHeld (sym (held-within l most) ∙ e) n (h .low) (h .high)) held)
+
+  pub held-within-most : ((n : ℕ) → holds l n ≡ true → n ≤ most) → allWithin 1 most (heldNumbers l) ≡ true
+  held-within-most few =
+      held-within l most ∙ all-pass (λ k. leb k most || not (holds l k)) (suc (l .safe .0)) mostHeld (λ i inside. excused (suc (l .safe .0) + i) (holds l (suc (l .safe .0) + i)) refl)
+    where
+      excused : (n : ℕ) (b : Bool) → holds l n ≡ b → leb n most || not (holds l n) ≡ true
+      excused n true e = rw (le-leb n most (few n e))
+      excused n false e = simp (e, or-true)
+
 module _ (l : Log) where
   pub numbers-most : numbersInRange l ≡ true → (n : ℕ) → holds l n ≡ true → n ≤ mostNumber
   unfolding numbersInRange
-  numbers-most e n held =
-      let h = holding l n held in
-      let passed = run-passes (λ k. leb k mostNumber || not (inUse (l .held) (placeOf k))) (l .safe .0) mostHeld e n (h .low) (h .high) in
-      leb-true n mostNumber (first-of (leb n mostNumber) (inUse (l .held) (placeOf n)) passed (rw (ne-eqb (getD (l .held .senders) (placeOf n) 0) 0 (h .named))))
+  numbers-most e n held = within-held l mostNumber e n held
 
   pub most-numbers : ((n : ℕ) → holds l n ≡ true → n ≤ mostNumber) → numbersInRange l ≡ true
   unfolding numbersInRange
-  most-numbers most = all-pass (λ k. leb k mostNumber || not (inUse (l .held) (placeOf k))) (suc (l .safe .0)) mostHeld each
-    where
-      used : (n : ℕ) → Holding l n → leb n mostNumber ≡ true
-      used n h = le-leb n mostNumber (most n (held-when l n h))
-
-      each : (i : ℕ) → i < mostHeld → leb (suc (l .safe .0) + i) mostNumber || not (inUse (l .held) (placeOf (suc (l .safe .0) + i))) ≡ true
-      each i inside =
-          let n = suc (l .safe .0) + i in
-          elim (ℕ-discrete (getD (l .held .senders) (placeOf n) 0) 0) [
-            | yes q ↦ simp (eq-eqb (getD (l .held .senders) (placeOf n) 0) 0 q, or-true)
-            | no q ↦ rw (used n (record { low = omega arith; high = omega arith; named = q }))
-          ]
+  most-numbers most = held-within-most l mostNumber most
 
   pub levels-held : heldToLevel l ≡ true → (n : ℕ) → l .safe .0 < n → n ≤ l .level .0 → holds l n ≡ true
   unfolding heldToLevel

@@ -14,7 +14,7 @@ use lib.Dec.{ltb, eqb}
 use lib.Seq.{length-sets, getD-set-same, getD-set-other}
 use Rattle.frames.specs.Layout.{mostContent}
 use Rattle.record.specs.Size.{mostHeld}
-use Rattle.record.specs.Held.{Entry, placeOf, entryAt, inWindow, holds, heldAt, heldWith, stored, cleared, clearedFrom, letGo}
+use Rattle.record.specs.Held.{Entry, placeOf, entryAt, inWindow, holds, heldWith, stored, cleared, clearedFrom, letGo}
 use Rattle.record.specs.declared.log.Held.{Held}
 use Rattle.record.specs.declared.log.Log.{Log}
 use Rattle.record.proofs.Arrays.{HeldArrays}
@@ -133,6 +133,10 @@ freed h first (suc n) zero h< = rw add-zero (free-stays (cleared h (placeOf firs
 freed h first (suc n) (suc j) h< = rw (add-suc, ← suc-add) (freed (cleared h (placeOf first)) (suc first) n j (omega arith))
 
 -- ---- under a number
+
+-- what is held there
+unfoldable pub heldAt : Log → ℕ → Option Entry
+heldAt l number = cond (holds l number) (some (entryAt (l .held) (placeOf number))) none
 
 -- what an entry in or out of the window shows
 abbrev seen : Bool → Entry → Option Entry

@@ -8,14 +8,15 @@ use native.Mathlib.Omega.{arith}
 use lib.ListN.{length, take, drop}
 use lib.Seq.{drop-drop}
 use Rattle.words.specs.Scan.{every}
-use Rattle.record.specs.Count.{everyFrom}
+use Rattle.record.specs.Count.{numbersAfter, those}
+use Rattle.record.specs.Held.{holds, heldNumbers}
 use Rattle.record.specs.Members.{foundable}
 use Rattle.record.specs.Size.{postContents}
 use Rattle.record.specs.Layout.{recordSize, logAt, postsAt, heldMessagesAt, heldContentsAt, postContentsAt}
-use Rattle.record.specs.Head.{recordOn, recordIn, recordHead, contentsIn, waitingIn}
+use Rattle.record.specs.inner.Head.{recordOn, recordIn, recordHead, contentsIn, waitingIn}
 use Rattle.record.specs.declared.head.Head.{Head}
-use Rattle.record.specs.Fresh.{freshHeld, membersPlaced, freshLog, freshTurn, freshPosts, fresh}
-use Rattle.record.specs.Whole.{heldInRange, numbersInRange, logInRange, turnInRange, postsInRange, inRange, sendersAreMembers, resendPasses, whole}
+use Rattle.record.specs.Fresh.{freshHeld, membersPlaced, freshLog, fresh}
+use Rattle.record.specs.Whole.{heldInRange, numbersInRange, logInRange, sendersAreMembers, logWhole, whole}
 use Rattle.record.specs.Bytes.{heldOf, logOf, postsOf, recordOf}
 use Rattle.record.specs.Lent.{noRecord, lent, bytesWhole}
 use Rattle.record.specs.RoundTrip.{OtherLength}
@@ -51,7 +52,7 @@ whole-there s h b long e f =
     rw (lent-of s long) (rw (left, e) at f)
 
 pub no-record-whole : whole noRecord ≡ false
-unfolding every everyFrom foundable freshHeld membersPlaced freshLog freshTurn freshPosts fresh heldInRange numbersInRange logInRange turnInRange postsInRange inRange sendersAreMembers resendPasses whole
+unfolding every numbersAfter those holds heldNumbers foundable freshHeld membersPlaced freshLog fresh heldInRange numbersInRange logInRange sendersAreMembers logWhole whole
 no-record-whole = refl
 
 pub other-length : OtherLength

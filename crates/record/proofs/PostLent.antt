@@ -11,7 +11,8 @@ use Rattle.record.specs.Size.{postContents}
 use Rattle.record.specs.Layout.{postsAt, postContentsAt, postsSize, recordSize}
 use Rattle.record.specs.Bytes.{postsOf, postsBytes, recordOf, recordBytes}
 use Rattle.record.specs.Posts.{queued}
-use Rattle.record.specs.Head.{postsOn, waitingIn, withPosts}
+use Rattle.record.specs.Parts.{withPosts}
+use Rattle.record.specs.inner.Head.{postsOn, waitingIn}
 use Rattle.record.specs.declared.head.PostsHead.{PostsHead}
 use Rattle.record.specs.declared.posts.Posts.{Posts}
 use Rattle.record.proofs.Arrays.{PostsArrays}

@@ -11,12 +11,11 @@ use Rattle.frames.specs.Number.{mostNumber, mostId}
 use Rattle.frames.specs.Layout.{mostService, mostContent, longestToken}
 use Rattle.frames.proofs.Facts.{part}
 use Rattle.record.specs.Size.{mostMembers, mostHeld, mostPosts, mostBroadcasts, mostStall, heldContents, postContents}
-use Rattle.record.specs.Whole.{heldInRange, numbersInRange, logInRange, turnInRange, postsInRange, inRange}
+use Rattle.record.specs.Whole.{heldInRange, numbersInRange, logInRange, turnInRange, postsInRange}
 use Rattle.record.specs.declared.log.Held.{Held}
 use Rattle.record.specs.declared.log.Log.{Log}
 use Rattle.record.specs.declared.turn.Turn.{Turn}
 use Rattle.record.specs.declared.posts.Posts.{Posts}
-use Rattle.record.specs.declared.Record.{Record}
 use Rattle.record.proofs.Arrays.{HeldArrays, PostsArrays}
 
 -- ---- the held messages
@@ -112,22 +111,4 @@ posts-range p e =
       count = leb-true (p .count) mostPosts (part e (λ (f : leb (p .count) mostPosts ≡ false). simp (f, and-false)));
       services = within-most 0 mostService (p .services) (part e (λ (f : allWithin 0 mostService (p .services) ≡ false). simp (f, and-false)));
       lengths = within-most 0 mostContent (p .lengths) (part e (λ (f : allWithin 0 mostContent (p .lengths) ≡ false). simp (f, and-false)));
-    }
-
--- ---- the record
-
-pub record RecordRange (r : Record) : Type 0 where
-  pub own : r .own ≤ mostId
-  pub log : LogRange (r .log)
-  pub turn : TurnRange (r .turn)
-  pub posts : PostsRange (r .posts)
-
-pub record-range : (r : Record) → inRange r ≡ true → RecordRange r
-unfolding inRange
-record-range r e =
-    record {
-      own = leb-true (r .own) mostId (part e (λ (f : leb (r .own) mostId ≡ false). rw f));
-      log = log-range (r .log) (part e (λ (f : logInRange (r .log) ≡ false). simp (f, and-false)));
-      turn = turn-range (r .turn) (part e (λ (f : turnInRange (r .turn) ≡ false). simp (f, and-false)));
-      posts = posts-range (r .posts) (part e (λ (f : postsInRange (r .posts) ≡ false). simp (f, and-false)));
     }

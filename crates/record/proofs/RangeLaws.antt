@@ -1,7 +1,7 @@
 -- Fields in range: what the types alone tell, and what the code tests.
 use Prim.Native.Nat.{ℕ, suc, _+_, _≤_}
-use mathlib.Core.Path.{_≡_, sym}
-use mathlib.Core.Bool.{Bool, true, false, _&&_, and-true, and-false}
+use mathlib.Core.Path.{_≡_, sym, _∙_}
+use mathlib.Core.Bool.{Bool, true, false, not, _&&_, _||_, and-true, and-false}
 use borrow.Author.Tests.{eq-eqb, le-leb}
 use native.Mathlib.Omega.{arith}
 use lib.ListN.{length, getD}
@@ -10,14 +10,16 @@ use Rattle.words.specs.Scan.{allWithin}
 use Rattle.frames.specs.Number.{mostNumber, mostId}
 use Rattle.frames.specs.Layout.{mostService, mostContent, longestToken}
 use Rattle.record.specs.Size.{mostMembers, mostHeld, mostPosts, mostBroadcasts, mostStall, heldContents, postContents}
-use Rattle.record.specs.Whole.{heldInRange, numbersInRange, logInRange, turnInRange, postsInRange, inRange}
+use Rattle.record.specs.Count.{everyFrom}
+use Rattle.record.specs.Held.{placeOf, inUse}
+use Rattle.record.specs.Whole.{heldInRange, numbersInRange, logInRange, turnInRange, postsInRange}
 use Rattle.record.specs.declared.log.Held.{Held}
 use Rattle.record.specs.declared.log.Log.{Log}
 use Rattle.record.specs.declared.turn.Turn.{Turn}
 use Rattle.record.specs.declared.posts.Posts.{Posts}
-use Rattle.record.specs.declared.Record.{Record}
 use Rattle.record.proofs.ListLaws.{all-within}
 use Rattle.record.proofs.CountLaws.{all-pass}
+use Rattle.record.proofs.HeldNumbers.{places-within}
 
 pub held-tested : (h : Held)
     → length (h .senders) ≡ mostHeld
@@ -39,12 +41,16 @@ held-tested h e1 e2 e3 e4 p a b ea eb =
       eb,
     )
 
+-- a loop over the numbers that may be held
+pub numbers-tested : (l : Log) (good : Bool) → good ≡ everyFrom (λ n. leb n mostNumber || not (inUse (l .held) (placeOf n))) (suc (l .safe .0)) mostHeld → good ≡ numbersInRange l
+unfolding numbersInRange
+numbers-tested l good e = e ∙ sym (places-within l mostNumber)
+
 -- 32 numbers above the safe mark: none of them is too large
 pub numbers-below : (l : Log) → l .safe .0 + mostHeld ≤ mostNumber → true ≡ numbersInRange l
-unfolding numbersInRange
 numbers-below l room =
-    sym (all-pass _ (suc (l .safe .0)) mostHeld
-    (λ i h. let fits : suc (l .safe .0) + i ≤ mostNumber = omega arith in rw (le-leb (suc (l .safe .0) + i) mostNumber fits)))
+    numbers-tested l true (sym (all-pass _ (suc (l .safe .0)) mostHeld
+    (λ i h. let fits : suc (l .safe .0) + i ≤ mostNumber = omega arith in rw (le-leb (suc (l .safe .0) + i) mostNumber fits))))
 
 -- the safe mark is tested first
 pub safe-refused : (l : Log) → leb (l .safe .0) mostNumber ≡ false → false ≡ logInRange l
@@ -73,9 +79,3 @@ pub posts-tested : (p : Posts) → length (p .services) ≡ mostPosts → length
 unfolding postsInRange
 posts-tested p e1 e2 e3 a b ea eb =
     rw (eq-eqb (length (p .services)) mostPosts e1, eq-eqb (length (p .lengths)) mostPosts e2, eq-eqb (length (p .contents)) postContents e3, ea, eb)
-
-pub record-tested : (r : Record) → r .own ≤ mostId
-    → (a b c : Bool) → a ≡ logInRange (r .log) → b ≡ turnInRange (r .turn) → c ≡ postsInRange (r .posts)
-    → (a && b && c) ≡ inRange r
-unfolding inRange
-record-tested r h a b c ea eb ec = rw (le-leb (r .own) mostId h, ea, eb, ec)

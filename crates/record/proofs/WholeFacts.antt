@@ -1,7 +1,7 @@
 -- What a whole record tells, as facts, and that a record with these facts is whole.
 use Prim.Native.Nat.{ℕ, suc, _<_, _≤_}
 use mathlib.Core.Path.{_≡_}
-use mathlib.Core.Bool.{true, false, and-false}
+use mathlib.Core.Bool.{true, false, not, and-false}
 use mathlib.Core.List.{List}
 use borrow.Author.Tests.{leb-true, le-leb, eq-eqb, not-true}
 use native.Mathlib.Omega.{arith}
@@ -15,7 +15,7 @@ use Rattle.record.specs.Size.{mostMembers, mostBroadcasts, mostStall}
 use Rattle.record.specs.Held.{holds}
 use Rattle.record.specs.Members.{foundable}
 use Rattle.record.specs.Ring.{ids}
-use Rattle.record.specs.Whole.{logInRange, turnInRange, postsInRange, inRange, sendersAreMembers, resendPasses, marksInOrder, arusReached, heldToLevel, nextNotHeld, contentsPadded, freePlacesZero, logUnusedZero, postsUnusedZero, unusedZero, whole}
+use Rattle.record.specs.Whole.{logInRange, turnInRange, postsInRange, sendersAreMembers, resendPasses, marksInOrder, arusReached, heldToLevel, nextNotHeld, contentsPadded, freePlacesZero, logUnusedZero, postsUnusedZero, turnUnusedZero, logWhole, turnWhole, postsWhole, whole}
 use Rattle.record.specs.declared.log.Log.{Log}
 use Rattle.record.specs.declared.turn.Turn.{Turn}
 use Rattle.record.specs.declared.Record.{Record}
@@ -91,30 +91,24 @@ module _ (l : Log) where
   unfolding logUnusedZero
   log-unused g = rw (g .members .rest, zero-free (l .held) (g .stock .held .free), g .stock .held .padded)
 
-  log-good : logInRange l ≡ true
-      → sendersAreMembers (ids l) (l .held .senders) ≡ true
-      → marksInOrder l ≡ true
-      → heldToLevel l ≡ true
-      → nextNotHeld l ≡ true
-      → logUnusedZero l ≡ true
-      → LogGood l
-  unfolding marksInOrder nextNotHeld logUnusedZero
-  log-good ranged senders ordered reached next unused =
-      let r = log-range l ranged in
-      let unused-members = part unused (λ (f : allZero (drop (l .count) (l .members)) ≡ false). rw f) in
+  log-good : (own : ℕ) → logWhole own l ≡ true → LogGood l
+  unfolding logWhole marksInOrder nextNotHeld logUnusedZero
+  log-good own e =
+      let r = log-range l (part e (λ (f : logInRange l ≡ false). rw f)) in
+      let unused-members = part e (λ (f : allZero (drop (l .count) (l .members)) ≡ false). simp (f, and-false)) in
       let held : HeldGood (ids l) (l .held) =
       record {
         range = r .held;
-        known = senders-known (ids l) (l .held .senders) senders;
-        free = free-zero (l .held) (part unused (λ (f : freePlacesZero (l .held) ≡ false). simp (f, and-false)));
-        padded = part unused (λ (f : contentsPadded (l .held .lengths) (l .held .contents) ≡ false). simp (f, and-false));
+        known = senders-known (ids l) (l .held .senders) (part e (λ (f : sendersAreMembers (ids l) (l .held .senders) ≡ false). simp (f, and-false)));
+        free = free-zero (l .held) (part e (λ (f : freePlacesZero (l .held) ≡ false). simp (f, and-false)));
+        padded = part e (λ (f : contentsPadded (l .held .lengths) (l .held .contents) ≡ false). simp (f, and-false));
       } in
       let marks : MarksGood l =
       record {
-        safe-first = leb-true (l .safe .0) (l .delivered .0) (part ordered (λ (f : leb (l .safe .0) (l .delivered .0) ≡ false). rw f));
-        level-last = leb-true (l .delivered .0) (l .level .0) (part ordered (λ (f : leb (l .delivered .0) (l .level .0) ≡ false). simp (f, and-false)));
+        safe-first = leb-true (l .safe .0) (l .delivered .0) (part e (λ (f : leb (l .safe .0) (l .delivered .0) ≡ false). simp (f, and-false)));
+        level-last = leb-true (l .delivered .0) (l .level .0) (part e (λ (f : leb (l .delivered .0) (l .level .0) ≡ false). simp (f, and-false)));
         level-most = r .level;
-        to-level = levels-held l reached;
+        to-level = levels-held l (part e (λ (f : heldToLevel l ≡ false). simp (f, and-false)));
       } in
       record {
         ready =
@@ -123,8 +117,26 @@ module _ (l : Log) where
               stock = record { held = held; numbers = numbers-most l (r .numbers) };
               marks = marks;
             };
-        next = not-true (holds l (suc (l .level .0))) next;
+        next = not-true (holds l (suc (l .level .0))) (part e (λ (f : not (holds l (suc (l .level .0))) ≡ false). simp (f, and-false)));
       }
+
+  log-founded : (own : ℕ) → logWhole own l ≡ true → foundable (ids l) own (l .ring .0) ≡ true
+  unfolding logWhole
+  log-founded own e = part e (λ (f : foundable (ids l) own (l .ring .0) ≡ false). simp (f, and-false))
+
+  good-log : (own : ℕ) → LogGood l → foundable (ids l) own (l .ring .0) ≡ true → logWhole own l ≡ true
+  unfolding logWhole
+  good-log own g founded =
+      let marks = log-marks g in
+      rw (
+        log-in-range (g .ready),
+        known-senders (ids l) (l .held .senders) (g .ready .stock .held .known),
+        founded,
+        marks .0,
+        marks .1,
+        marks .2,
+        log-unused (g .ready),
+      )
 
 -- ---- the turn
 
@@ -145,86 +157,44 @@ arus-reached : (t : Turn) (level : ℕ) → t .aru .0 ≤ level → t .earlier .
 unfolding arusReached
 arus-reached t level a e = rw (le-leb (t .aru .0) level a, le-leb (t .earlier .0) level e)
 
-turn-good : (ring : ℕ) (members : List ℕ) (level : ℕ) (t : Turn)
-    → TurnRange t
-    → arusReached t level ≡ true
-    → resendPasses ring members t ≡ true
-    → allZero (drop (t .size) (t .token)) ≡ true
-    → TurnGood ring members level t
-unfolding arusReached
-turn-good ring members level t r arus leave rest =
-    record {
-      range = r;
-      aru = leb-true (t .aru .0) level (part arus (λ (f : leb (t .aru .0) level ≡ false). rw f));
-      earlier = leb-true (t .earlier .0) level (part arus (λ (f : leb (t .earlier .0) level ≡ false). simp (f, and-false)));
-      leave = leave;
-      rest = rest;
-    }
+module _ (l : Log) (t : Turn) where
+  turn-good : turnWhole l t ≡ true → TurnGood (l .ring .0) (ids l) (l .level .0) t
+  unfolding turnWhole arusReached turnUnusedZero
+  turn-good e =
+      record {
+        range = turn-range t (part e (λ (f : turnInRange t ≡ false). rw f));
+        aru = leb-true (t .aru .0) (l .level .0) (part e (λ (f : leb (t .aru .0) (l .level .0) ≡ false). simp (f, and-false)));
+        earlier = leb-true (t .earlier .0) (l .level .0) (part e (λ (f : leb (t .earlier .0) (l .level .0) ≡ false). simp (f, and-false)));
+        leave = part e (λ (f : resendPasses (l .ring .0) (ids l) t ≡ false). simp (f, and-false));
+        rest = part e (λ (f : allZero (drop (t .size) (t .token)) ≡ false). simp (f, and-false));
+      }
+
+  good-turn : TurnGood (l .ring .0) (ids l) (l .level .0) t → turnWhole l t ≡ true
+  unfolding turnWhole turnUnusedZero
+  good-turn g = rw (turn-in-range t (g .range), g .leave, arus-reached t (l .level .0) (g .aru) (g .earlier), g .rest)
 
 -- ---- the record
 
 module _ (r : Record) where
-  unused-parts : unusedZero r ≡ true → (logUnusedZero (r .log) ≡ true) × (postsUnusedZero (r .posts) ≡ true) × (allZero (drop (r .turn .size) (r .turn .token)) ≡ true)
-  unfolding unusedZero
-  unused-parts e = (
-    part e (λ (f : logUnusedZero (r .log) ≡ false). rw f),
-    part e (λ (f : postsUnusedZero (r .posts) ≡ false). simp (f, and-false)),
-    part e (λ (f : allZero (drop (r .turn .size) (r .turn .token)) ≡ false). simp (f, and-false)),
-  )
-
-  range-parts : inRange r ≡ true → (logInRange (r .log) ≡ true) × (turnInRange (r .turn) ≡ true) × (postsInRange (r .posts) ≡ true)
-  unfolding inRange
-  range-parts e = (
-    part e (λ (f : logInRange (r .log) ≡ false). simp (f, and-false)),
-    part e (λ (f : turnInRange (r .turn) ≡ false). simp (f, and-false)),
-    part e (λ (f : postsInRange (r .posts) ≡ false). simp (f, and-false)),
-  )
-
   pub whole-good : whole r ≡ true → RecordGood r
-  unfolding whole
+  unfolding whole postsWhole
   whole-good e =
-      let l = r .log in
-      let t = r .turn in
-      let range = range-parts (part e (λ (f : inRange r ≡ false). rw f)) in
-      let unused = unused-parts (part e (λ (f : unusedZero r ≡ false). simp (f, and-false))) in
+      let log = part e (λ (f : logWhole (r .own) (r .log) ≡ false). simp (f, and-false)) in
       record {
-        log =
-            log-good l
-            (range .0)
-            (part e (λ (f : sendersAreMembers (ids l) (l .held .senders) ≡ false). simp (f, and-false)))
-            (part e (λ (f : marksInOrder l ≡ false). simp (f, and-false)))
-            (part e (λ (f : heldToLevel l ≡ false). simp (f, and-false)))
-            (part e (λ (f : nextNotHeld l ≡ false). simp (f, and-false)))
-            (unused .0);
-        turn =
-            turn-good (l .ring .0) (ids l) (l .level .0) t
-            (turn-range t (range .1))
-            (part e (λ (f : arusReached t (l .level .0) ≡ false). simp (f, and-false)))
-            (part e (λ (f : resendPasses (l .ring .0) (ids l) t ≡ false). simp (f, and-false)))
-            (unused .2);
-        founded = part e (λ (f : foundable (ids l) (r .own) (l .ring .0) ≡ false). simp (f, and-false));
-        posts = range .2;
-        posts-rest = unused .1;
+        log = log-good (r .log) (r .own) log;
+        turn = turn-good (r .log) (r .turn) (part e (λ (f : turnWhole (r .log) (r .turn) ≡ false). simp (f, and-false)));
+        founded = log-founded (r .log) (r .own) log;
+        posts = part e (λ (f : postsInRange (r .posts) ≡ false). simp (f, and-false));
+        posts-rest = part e (λ (f : postsUnusedZero (r .posts) ≡ false). simp (f, and-false));
       }
 
   pub good-whole : RecordGood r → whole r ≡ true
-  unfolding whole inRange unusedZero
+  unfolding whole postsWhole
   good-whole g =
-      let l = r .log in
-      let marks = log-marks l (g .log) in
       rw (
-        le-leb (r .own) mostId (own-most (ids l) (r .own) (foundable-facts (ids l) (r .own) (l .ring .0) (g .founded))),
-        log-in-range l (g .log .ready),
-        turn-in-range (r .turn) (g .turn .range),
+        le-leb (r .own) mostId (own-most (ids (r .log)) (r .own) (foundable-facts (ids (r .log)) (r .own) (r .log .ring .0) (g .founded))),
+        good-log (r .log) (r .own) (g .log) (g .founded),
+        good-turn (r .log) (r .turn) (g .turn),
         g .posts,
-        known-senders (ids l) (l .held .senders) (g .log .ready .stock .held .known),
-        g .turn .leave,
-        g .founded,
-        marks .0,
-        arus-reached (r .turn) (l .level .0) (g .turn .aru) (g .turn .earlier),
-        marks .1,
-        marks .2,
-        log-unused l (g .log .ready),
         g .posts-rest,
-        g .turn .rest,
       )

@@ -1,33 +1,72 @@
--- Whole: what the code tests, clause by clause.
-use Prim.Native.Nat.{ℕ, _-_}
+-- Whole: what the code tests, part by part.
+use Prim.Native.Nat.{ℕ, _-_, _≤_}
 use mathlib.Core.Path.{_≡_, sym, _∙_}
-use mathlib.Core.Bool.{Bool, true, false, not, _&&_, and-assoc}
+use mathlib.Core.Bool.{Bool, true, false, not, _&&_, and-false}
 use native.Mathlib.Nat.{sub-zero}
-use borrow.Author.Tests.{not-true, not-false}
+use borrow.Author.Tests.{le-leb, not-true, not-false}
 use lib.ListN.{take}
+use Rattle.frames.specs.Number.{mostId}
+use Rattle.frames.proofs.Facts.{part}
+use Rattle.record.specs.Size.{mostMembers}
 use Rattle.record.specs.Members.{foundable}
-use Rattle.record.specs.Ring.{ids}
-use Rattle.record.specs.Whole.{inRange, sendersAreMembers, resendPasses, marksInOrder, arusReached, heldToLevel, nextNotHeld, unusedZero, whole}
+use Rattle.record.specs.Whole.{logInRange, turnInRange, sendersAreMembers, resendPasses, marksInOrder, arusReached, heldToLevel, nextNotHeld, logUnusedZero, turnUnusedZero, logWhole, turnWhole, postsWhole, whole}
 use Rattle.record.specs.declared.log.Log.{Log}
 use Rattle.record.specs.declared.turn.Turn.{Turn}
 use Rattle.record.specs.declared.Record.{Record}
-use Rattle.record.proofs.RangeFacts.{RecordRange, record-range}
+use Rattle.record.proofs.RangeFacts.{LogRange, TurnRange, log-range, turn-range}
 
-pub members-tested : (l : Log) (own : ℕ) (t : Turn) (a b c : Bool)
-    → a ≡ sendersAreMembers (take (l .count - 0) (l .members)) (l .held .senders)
-    → b ≡ resendPasses (l .ring .0) (take (l .count - 0) (l .members)) t
-    → c ≡ foundable (take (l .count - 0) (l .members)) own (l .ring .0)
-    → (a && b && c) ≡ (sendersAreMembers (ids l) (l .held .senders) && resendPasses (l .ring .0) (ids l) t && foundable (ids l) own (l .ring .0))
-members-tested l own t a b c ea eb ec = rw (ea, eb, ec, sub-zero (l .count))
+-- ---- the log
 
-module _ (r : Record) (t : Bool) (e : t ≡ inRange r) where
-  pub range-refused : not t ≡ true → false ≡ whole r
+module _ (own : ℕ) (l : Log) (t : Bool) (e : t ≡ logInRange l) where
+  pub log-refused : not t ≡ true → false ≡ logWhole own l
+  unfolding logWhole
+  log-refused f = rw (sym e ∙ not-true t f)
+
+  pub log-ranged : not t ≡ false → LogRange l
+  log-ranged f = log-range l (sym e ∙ not-false t f)
+
+  pub log-whole-tested : not t ≡ false
+      → (a b c d n z : Bool)
+      → a ≡ sendersAreMembers (take (l .count - 0) (l .members)) (l .held .senders)
+      → b ≡ foundable (take (l .count - 0) (l .members)) own (l .ring .0)
+      → c ≡ marksInOrder l
+      → d ≡ heldToLevel l
+      → n ≡ nextNotHeld l
+      → z ≡ logUnusedZero l
+      → (a && b && c && d && n && z) ≡ logWhole own l
+  unfolding logWhole
+  log-whole-tested f a b c d n z ea eb ec ed en ez = rw (sym e ∙ not-false t f, ea, eb, ec, ed, en, ez, sub-zero (l .count))
+
+-- ---- the turn
+
+module _ (l : Log) (turn : Turn) (t : Bool) (e : t ≡ turnInRange turn) where
+  pub turn-refused : not t ≡ true → false ≡ turnWhole l turn
+  unfolding turnWhole
+  turn-refused f = rw (sym e ∙ not-true t f)
+
+  pub turn-ranged : not t ≡ false → TurnRange turn
+  turn-ranged f = turn-range turn (sym e ∙ not-false t f)
+
+  pub turn-whole-tested : not t ≡ false
+      → (a b c : Bool)
+      → a ≡ resendPasses (l .ring .0) (take (l .count - 0) (l .members)) turn
+      → b ≡ arusReached turn (l .level .0)
+      → c ≡ turnUnusedZero turn
+      → (a && b && c) ≡ turnWhole l turn
+  unfolding turnWhole
+  turn-whole-tested f a b c ea eb ec = rw (sym e ∙ not-false t f, ea, eb, ec, sub-zero (l .count))
+
+-- ---- the record
+
+module _ (r : Record) (t : Bool) (e : t ≡ logWhole (r .own) (r .log)) where
+  pub whole-refused : not t ≡ true → false ≡ whole r
   unfolding whole
-  range-refused f = rw (sym e ∙ not-true t f)
+  whole-refused f = simp (sym e ∙ not-true t f, and-false)
 
-  pub ranged : not t ≡ false → RecordRange r
-  ranged f = record-range r (sym e ∙ not-false t f)
+  pub members-few : not t ≡ false → r .log .count ≤ mostMembers
+  unfolding logWhole
+  members-few f = log-range (r .log) (part (sym e ∙ not-false t f) (λ (g : logInRange (r .log) ≡ false). rw g)) .count
 
-  pub whole-tested : not t ≡ false → (a b c : Bool) → a ≡ (sendersAreMembers (ids (r .log)) (r .log .held .senders) && resendPasses (r .log .ring .0) (ids (r .log)) (r .turn) && foundable (ids (r .log)) (r .own) (r .log .ring .0)) → b ≡ (marksInOrder (r .log) && arusReached (r .turn) (r .log .level .0) && heldToLevel (r .log) && nextNotHeld (r .log)) → c ≡ unusedZero r → (a && b && c) ≡ whole r
+  pub whole-tested : not t ≡ false → r .own ≤ mostId → (a b : Bool) → a ≡ turnWhole (r .log) (r .turn) → b ≡ postsWhole (r .posts) → (a && b) ≡ whole r
   unfolding whole
-  whole-tested f a b c ea eb ec = rw (sym e ∙ not-false t f, ea, eb, ec) (simp and-assoc)
+  whole-tested f own a b ea eb = rw (le-leb (r .own) mostId own, sym e ∙ not-false t f, ea, eb)

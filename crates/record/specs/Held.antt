@@ -1,15 +1,15 @@
 -- The messages that a station holds. [document 01, The station record; the paper's receive_message_queue]
 use Prim.Native.Nat.{ℕ, zero, suc, _+_, _*_, _-_, _%_}
-use mathlib.Core.Bool.{Bool, not, _&&_, cond}
+use mathlib.Core.Bool.{Bool, not, _&&_}
 use mathlib.Core.List.{List}
-use mathlib.Core.Option.{Option, none, some}
 use lib.ListN.{length, getD, set, replicate}
 use lib.Dec.{leb, ltb, eqb}
 use lib.Seq.{sets}
 use Rattle.frames.specs.Layout.{mostContent}
 use Rattle.frames.specs.declared.number.MessageNumber.{MessageNumber}
-use Rattle.record.specs.Contents.{contentIn}
 use Rattle.record.specs.Size.{mostHeld}
+use Rattle.record.specs.Count.{numbersAfter, those}
+use Rattle.record.specs.Contents.{contentIn}
 use Rattle.record.specs.declared.log.Held.{Held}
 use Rattle.record.specs.declared.log.Log.{Log}
 
@@ -43,13 +43,9 @@ inWindow l number = ltb (l .safe .0) number && leb number (l .safe .0 + mostHeld
 unfoldable pub holds : Log → ℕ → Bool
 holds l number = inWindow l number && inUse (l .held) (placeOf number)
 
--- what is held under a number
-unfoldable pub heldAt : Log → ℕ → Option Entry
-heldAt l number = cond (holds l number) (some (entryAt (l .held) (placeOf number))) none
-
--- the messages that these arrays hold
-abbrev pub heldFrom : List ℕ → List ℕ → List ℕ → List ℕ → Held
-heldFrom senders services lengths contents = record { senders = senders; services = services; lengths = lengths; contents = contents }
+-- the numbers held
+unfoldable pub heldNumbers : Log → List ℕ
+heldNumbers l = those (holds l) (numbersAfter (l .safe .0) mostHeld)
 
 -- ---- a message is held under a number
 
@@ -95,7 +91,7 @@ unfoldable pub clearedFrom : Held → ℕ → ℕ → Held
 clearedFrom h first zero = h
 clearedFrom h first (suc n) = clearedFrom (cleared h (placeOf first)) (suc first) n
 
--- the one place where the safe mark rises. `heldAt` looks through the log's own safe mark, so whoever needs what was held until now
+-- the one place where the safe mark rises. `holds` looks through the log's own safe mark, so whoever needs what was held until now
 -- looks it up before
 unfoldable pub letGo : Log → ℕ → Log
 letGo l safe = logWith l (l .level) (record { 0 = safe }) (l .delivered) (clearedFrom (l .held) (suc (l .safe .0)) (safe - l .safe .0))

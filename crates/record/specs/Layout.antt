@@ -1,8 +1,8 @@
--- Where each field of the record stands in its bytes, counted from the first byte of the part that it belongs to, and how long
--- each part is. docs/RECORD.md has the same as one table from the record's first byte. [document 01, The station and its neighbours]
-use Prim.Native.Nat.{ℕ, _+_}
+-- Where each field of the record stands in its bytes, counted from the first byte of the part that it belongs to: behind the one
+-- before it, by that one's size. And how long each part is. docs/RECORD.md has the same as one table from the record's first byte. [document 01, The station and its neighbours]
+use Prim.Native.Nat.{ℕ, _+_, _*_}
 use Rattle.frames.specs.Layout.{longestToken}
-use Rattle.record.specs.Size.{heldContents, postContents}
+use Rattle.record.specs.Size.{mostMembers, mostHeld, mostPosts, heldContents, postContents}
 
 -- ---- the held messages
 
@@ -10,13 +10,13 @@ abbrev pub sendersAt : ℕ
 sendersAt = 0
 
 abbrev pub heldServicesAt : ℕ
-heldServicesAt = 64
+heldServicesAt = sendersAt + 2 * mostHeld
 
 abbrev pub heldLengthsAt : ℕ
-heldLengthsAt = 128
+heldLengthsAt = heldServicesAt + 2 * mostHeld
 
 abbrev pub heldContentsAt : ℕ
-heldContentsAt = 160
+heldContentsAt = heldLengthsAt + mostHeld
 
 abbrev pub heldSize : ℕ
 heldSize = heldContentsAt + heldContents
@@ -27,22 +27,22 @@ abbrev pub logRingAt : ℕ
 logRingAt = 0
 
 abbrev pub memberCountAt : ℕ
-memberCountAt = 4
+memberCountAt = logRingAt + 4
 
 abbrev pub membersAt : ℕ
-membersAt = 5
+membersAt = memberCountAt + 1
 
 abbrev pub levelAt : ℕ
-levelAt = 21
+levelAt = membersAt + 2 * mostMembers
 
 abbrev pub safeAt : ℕ
-safeAt = 25
+safeAt = levelAt + 4
 
 abbrev pub deliveredAt : ℕ
-deliveredAt = 29
+deliveredAt = safeAt + 4
 
 abbrev pub heldMessagesAt : ℕ
-heldMessagesAt = 33
+heldMessagesAt = deliveredAt + 4
 
 abbrev pub logSize : ℕ
 logSize = heldMessagesAt + heldSize
@@ -53,22 +53,22 @@ abbrev pub turnAruAt : ℕ
 turnAruAt = 0
 
 abbrev pub earlierAt : ℕ
-earlierAt = 4
+earlierAt = turnAruAt + 4
 
 abbrev pub turnNumberAt : ℕ
-turnNumberAt = 8
+turnNumberAt = earlierAt + 4
 
 abbrev pub broadcastAt : ℕ
-broadcastAt = 12
+broadcastAt = turnNumberAt + 4
 
 abbrev pub stallAt : ℕ
-stallAt = 13
+stallAt = broadcastAt + 1
 
 abbrev pub tokenSizeAt : ℕ
-tokenSizeAt = 14
+tokenSizeAt = stallAt + 1
 
 abbrev pub tokenAt : ℕ
-tokenAt = 15
+tokenAt = tokenSizeAt + 1
 
 abbrev pub turnSize : ℕ
 turnSize = tokenAt + longestToken
@@ -79,13 +79,13 @@ abbrev pub postCountAt : ℕ
 postCountAt = 0
 
 abbrev pub postServicesAt : ℕ
-postServicesAt = 1
+postServicesAt = postCountAt + 1
 
 abbrev pub postLengthsAt : ℕ
-postLengthsAt = 33
+postLengthsAt = postServicesAt + 2 * mostPosts
 
 abbrev pub postContentsAt : ℕ
-postContentsAt = 49
+postContentsAt = postLengthsAt + mostPosts
 
 abbrev pub postsSize : ℕ
 postsSize = postContentsAt + postContents
@@ -96,7 +96,7 @@ abbrev pub ownAt : ℕ
 ownAt = 0
 
 abbrev pub logAt : ℕ
-logAt = 2
+logAt = ownAt + 2
 
 abbrev pub turnAt : ℕ
 turnAt = logAt + logSize

@@ -2,7 +2,7 @@ pub mod Size
 pub mod Layout
 pub mod Count
 pub mod Contents
-pub mod Head
+pub mod Parts
 pub mod Held
 pub mod Posts
 pub mod Turn
@@ -13,3 +13,4 @@ pub mod Fresh
 pub mod Bytes
 pub mod Lent
 pub mod RoundTrip
+pub mod inner

@@ -1,4 +1,5 @@
--- When a record is whole: one definition for each clause of document 01's paragraph, in its order. [document 01, The station record]
+-- When a record is whole: one definition for each clause of document 01's paragraph, in its order, and at the end the clauses of each
+-- part: of the log, of the turn and of the posts. [document 01, The station record]
 -- A list has any length, so the ranges ask for each array's own length too.
 use Prim.Native.Nat.{ℕ, suc, _-_}
 use mathlib.Core.Bool.{Bool, not, _&&_, _||_}
@@ -11,7 +12,7 @@ use Rattle.frames.specs.Layout.{mostService, mostContent, longestToken}
 use Rattle.record.specs.Size.{mostMembers, mostHeld, mostPosts, mostBroadcasts, mostStall, heldContents, postContents}
 use Rattle.record.specs.Count.{everyFrom}
 use Rattle.record.specs.Contents.{padding}
-use Rattle.record.specs.Held.{placeOf, inUse, holds}
+use Rattle.record.specs.Held.{inUse, holds, heldNumbers}
 use Rattle.record.specs.Turn.{mayResend, remembered}
 use Rattle.record.specs.Members.{isMember, foundable}
 use Rattle.record.specs.Ring.{current, ids, tokenPasses}
@@ -33,9 +34,9 @@ heldInRange h =
     && allWithin 0 mostService (h .services)
     && allWithin 0 mostContent (h .lengths)
 
--- no held number is above 2,000,000,000
+-- held numbers are 1 to 2,000,000,000
 unfoldable pub numbersInRange : Log → Bool
-numbersInRange l = everyFrom (λ n. leb n mostNumber || not (inUse (l .held) (placeOf n))) (suc (l .safe .0)) mostHeld
+numbersInRange l = allWithin 1 mostNumber (heldNumbers l)
 
 unfoldable pub logInRange : Log → Bool
 logInRange l =
@@ -65,9 +66,6 @@ postsInRange p =
     && leb (p .count) mostPosts
     && allWithin 0 mostService (p .services)
     && allWithin 0 mostContent (p .lengths)
-
-unfoldable pub inRange : Record → Bool
-inRange r = leb (r .own) mostId && logInRange (r .log) && turnInRange (r .turn) && postsInRange (r .posts)
 
 -- ---- held senders members
 
@@ -115,19 +113,29 @@ logUnusedZero l = allZero (drop (l .count) (l .members)) && freePlacesZero (l .h
 unfoldable pub postsUnusedZero : Posts → Bool
 postsUnusedZero p = allZero (drop (p .count) (p .services)) && allZero (drop (p .count) (p .lengths)) && contentsPadded (p .lengths) (p .contents)
 
-unfoldable pub unusedZero : Record → Bool
-unusedZero r = logUnusedZero (r .log) && postsUnusedZero (r .posts) && allZero (drop (r .turn .size) (r .turn .token))
+-- the bytes past the remembered token; all of them once its leave has ended
+unfoldable pub turnUnusedZero : Turn → Bool
+turnUnusedZero t = allZero (drop (t .size) (t .token))
 
--- ---- whole. That a held message's place follows from its number alone needs no clause: no number is stored (`placeOf`)
+-- ---- whole, part by part. That a held message's place follows from its number alone needs no clause: no number is stored (`placeOf`)
+
+-- of a station's own id
+unfoldable pub logWhole : ℕ → Log → Bool
+logWhole own l =
+    logInRange l
+    && sendersAreMembers (ids l) (l .held .senders)
+    && foundable (ids l) own (l .ring .0)
+    && marksInOrder l
+    && heldToLevel l
+    && nextNotHeld l
+    && logUnusedZero l
+
+-- over a log
+unfoldable pub turnWhole : Log → Turn → Bool
+turnWhole l t = turnInRange t && resendPasses (l .ring .0) (ids l) t && arusReached t (l .level .0) && turnUnusedZero t
+
+unfoldable pub postsWhole : Posts → Bool
+postsWhole p = postsInRange p && postsUnusedZero p
 
 unfoldable pub whole : Record → Bool
-whole r =
-    inRange r
-    && sendersAreMembers (ids (current r)) (current r .held .senders)
-    && resendPasses (current r .ring .0) (ids (current r)) (r .turn)
-    && foundable (ids (current r)) (r .own) (current r .ring .0)
-    && marksInOrder (current r)
-    && arusReached (r .turn) (current r .level .0)
-    && heldToLevel (current r)
-    && nextNotHeld (current r)
-    && unusedZero r
+whole r = leb (r .own) mostId && logWhole (r .own) (current r) && turnWhole (current r) (r .turn) && postsWhole (r .posts)

@@ -3,7 +3,7 @@ ghost use mathlib.Core.Path.{_≡_};
 ghost use Prim.Native.Nat.{_≤_};
 ghost use lib.ListN.{length, replicate};
 ghost use Rattle.record.specs.Size.{mostMembers, heldContents, postContents};
-ghost use Rattle.record.specs.Head.{logOn, postsOn, recordOn};
+ghost use Rattle.record.specs.inner.Head.{logOn, postsOn, recordOn};
 ghost use Rattle.record.specs.Fresh.{membersPlaced, freshLog, freshTurn, freshPosts, fresh};
 use crate::Record;
 use crate::head;

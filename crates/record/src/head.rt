@@ -2,7 +2,7 @@
 // so a head is small and goes by value where the whole would be copied. A count stands last in it, behind the
 // arrays: there is no hole between fields, and a copy moves them by whole words.
 ghost use mathlib.Core.Path.{_≡_};
-ghost use Rattle.record.specs.Head.{recordOn, recordHead, headWith};
+ghost use Rattle.record.specs.inner.Head.{recordOn, recordHead, headWith, headWithParts};
 use crate::Record;
 use crate::log::Held;
 use crate::log::Log;
@@ -36,6 +36,18 @@ pub struct Head {
     pub turn: Turn,
     pub own: u16,
     pub posts: PostsHead,
+}
+
+// A head with other parts: whatever else it has stays. Ruled out: another own id.
+pub fn with_parts(h: Head, log: LogHead, turn: Turn, posts: PostsHead) -> Head
+    ensures { λ r. ⌜ r ≡ headWithParts h log turn posts ⌝ }
+{
+    Head {
+        log,
+        turn,
+        own: h.own,
+        posts,
+    }
 }
 
 // The head of a log with other marks and other places. Ruled out: two marks swapped; a member left out.

@@ -1,6 +1,6 @@
 // A record lent as bytes: what is asked of it and done to it where it stands. A head goes by value, contents stay.
 ghost use mathlib.Core.Path.{_≡_};
-ghost use Prim.Native.Nat.{_*_, _≤_, _<_};
+ghost use Prim.Native.Nat.{_+_, _*_, _≤_, _<_};
 ghost use lib.ListN.{length, take, drop};
 ghost use lib.Seq.{sets};
 ghost use Rattle.frames.specs.Number.{mostNumber};
@@ -8,8 +8,8 @@ ghost use Rattle.frames.specs.Layout.{mostContent};
 ghost use Rattle.record.specs.Size.{mostPosts};
 ghost use Rattle.record.specs.Held.{placeOf, stored, letGo};
 ghost use Rattle.record.specs.Posts.{taken};
-ghost use Rattle.record.specs.Layout.{recordSize, logAt, postsAt};
-ghost use Rattle.record.specs.Head.{logOn, postsOn, contentsIn, waitingIn, recordHead};
+ghost use Rattle.record.specs.Layout.{recordSize, logAt, turnAt, postsAt, postContentsAt};
+ghost use Rattle.record.specs.inner.Head.{logOn, postsOn, contentsIn, waitingIn, recordHead};
 ghost use Rattle.record.specs.Lent.{lent, bytesWhole};
 use crate::bytes;
 use crate::fresh;
@@ -67,6 +67,9 @@ pub fn contents_in(s: &[u8]) -> &[u8]
     &s[layout::CONTENTS_AT..layout::CONTENTS_END]
 }
 
+// What is done to the log leaves everything behind it, and what is done to the posts everything before their
+// contents.
+
 // A message is held under a number. Ruled out: another number's message written over; a post's content changed.
 pub fn store_in(
     l: LogHead,
@@ -81,7 +84,7 @@ pub fn store_in(
         (logOn r (contentsIn (now (s .exit)) logAt)
         ≡ stored (logOn l (contentsIn (now (s .entry)) logAt)) (n .0)
         (record { sender = sender; service = service; content = now (content .entry) }))
-        × (waitingIn (now (s .exit)) postsAt ≡ waitingIn (now (s .entry)) postsAt) ⌝ }
+        × (drop turnAt (now (s .exit)) ≡ drop turnAt (now (s .entry))) ⌝ }
 {
     let contents = &mut s[layout::CONTENTS_AT..layout::CONTENTS_END];
     held::store(l, contents, n, sender, service, content)
@@ -95,7 +98,7 @@ pub fn hold_content_in(s: &mut [u8], post: usize, size: usize, n: MessageNumber)
         (contentsIn (now (s .exit)) logAt
         ≡ sets (contentsIn (now (s .entry)) logAt) (mostContent * placeOf (n .0))
         (take size (drop (mostContent * post) (waitingIn (now (s .entry)) postsAt))))
-        × (waitingIn (now (s .exit)) postsAt ≡ waitingIn (now (s .entry)) postsAt) ⌝ }
+        × (drop turnAt (now (s .exit)) ≡ drop turnAt (now (s .entry))) ⌝ }
 {
     let mut content = [0u8; frames::MOST_CONTENT];
     let from = layout::WAITING_AT + frames::MOST_CONTENT * post;
@@ -110,7 +113,7 @@ pub fn let_go_in(l: LogHead, s: &mut [u8], safe: MessageNumber) -> LogHead
     requires { ⌜ (length (now s) ≡ recordSize) × (l .safe .0 ≤ safe .0) × (safe .0 ≤ mostNumber) ⌝ }
     ensures { λ r. ⌜
         (logOn r (contentsIn (now (s .exit)) logAt) ≡ letGo (logOn l (contentsIn (now (s .entry)) logAt)) (safe .0))
-        × (waitingIn (now (s .exit)) postsAt ≡ waitingIn (now (s .entry)) postsAt) ⌝ }
+        × (drop turnAt (now (s .exit)) ≡ drop turnAt (now (s .entry))) ⌝ }
 {
     let contents = &mut s[layout::CONTENTS_AT..layout::CONTENTS_END];
     held::let_go(l, contents, safe)
@@ -121,7 +124,7 @@ pub fn take_oldest_in(p: PostsHead, s: &mut [u8], n: u8) -> PostsHead
     requires { ⌜ (length (now s) ≡ recordSize) × (n ≤ p .count) × (p .count ≤ mostPosts) ⌝ }
     ensures { λ r. ⌜
         (postsOn r (waitingIn (now (s .exit)) postsAt) ≡ taken (postsOn p (waitingIn (now (s .entry)) postsAt)) n)
-        × (contentsIn (now (s .exit)) logAt ≡ contentsIn (now (s .entry)) logAt) ⌝ }
+        × (take (postsAt + postContentsAt) (now (s .exit)) ≡ take (postsAt + postContentsAt) (now (s .entry))) ⌝ }
 {
     let waiting = &mut s[layout::WAITING_AT..layout::RECORD_SIZE];
     posts::take_oldest(p, waiting, n)

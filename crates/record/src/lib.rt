@@ -18,38 +18,22 @@ mod turn_bytes;
 mod unused;
 mod whole;
 
-pub use bytes::decode;
-pub use bytes::encode;
-pub use bytes::get_head;
-pub use bytes::post_count;
-pub use bytes::put_fresh;
-pub use bytes::put_head;
-pub use bytes::put_post;
-pub use bytes::turn_in;
-pub use fresh::fresh_record;
+// Structs and sizes, and functions of any values and bytes.
 pub use head::Head;
 pub use head::LogHead;
 pub use head::PostsHead;
 pub use head::head_with;
 pub use head::marked;
-pub use held::is_held;
-pub use held::numbers_before;
+pub use head::with_parts;
 pub use layout::RECORD_SIZE;
-pub use lent::contents_in;
 pub use lent::head_in;
-pub use lent::hold_content_in;
-pub use lent::is_whole_at;
 pub use lent::is_whole_in;
-pub use lent::let_go_in;
-pub use lent::store_in;
-pub use lent::take_oldest_in;
 pub use log::Held;
 pub use log::Log;
 pub use members::ids_follow;
 pub use members::is_member;
 pub use members::members_counted;
 pub use posts::Posts;
-pub use posts::queue;
 pub use ring::representative_of;
 pub use ring::this_ring;
 pub use ring::token_members;
@@ -59,6 +43,26 @@ pub use size::MOST_MEMBERS;
 pub use size::MOST_POSTS;
 pub use turn::Turn;
 pub use whole::is_whole;
+
+// Only for the crates above: each of these has a `requires`, which they show where they call it.
+pub use bytes::decode;
+pub use bytes::encode;
+pub use bytes::get_head;
+pub use bytes::post_count;
+pub use bytes::put_fresh;
+pub use bytes::put_head;
+pub use bytes::put_post;
+pub use bytes::turn_in;
+pub use fresh::fresh_record;
+pub use held::is_held;
+pub use held::numbers_before;
+pub use lent::contents_in;
+pub use lent::hold_content_in;
+pub use lent::is_whole_at;
+pub use lent::let_go_in;
+pub use lent::store_in;
+pub use lent::take_oldest_in;
+pub use posts::queue;
 
 pub struct Record {
     pub own: u16,

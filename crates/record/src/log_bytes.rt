@@ -7,7 +7,7 @@ ghost use lib.Seq.{sets};
 ghost use Rattle.words.specs.Run.{wordsBytes};
 ghost use Rattle.record.specs.Layout.{logSize, heldContentsAt};
 ghost use Rattle.record.specs.Bytes.{logOf, logBytes};
-ghost use Rattle.record.specs.Head.{logOn, contentsIn};
+ghost use Rattle.record.specs.inner.Head.{logOn, contentsIn};
 use crate::head::LogHead;
 use crate::layout;
 use crate::size;

@@ -6,7 +6,7 @@ ghost use Prim.Native.Nat.{_*_, _-_, _≤_, _<_};
 ghost use lib.ListN.{length, take, drop, replicate};
 ghost use Rattle.frames.specs.Layout.{mostContent};
 ghost use Rattle.record.specs.Size.{mostPosts, postContents};
-ghost use Rattle.record.specs.Head.{postsOn};
+ghost use Rattle.record.specs.inner.Head.{postsOn};
 ghost use Rattle.record.specs.Posts.{queued, taken};
 use crate::head::PostsHead;
 use crate::size;

@@ -5,7 +5,7 @@ ghost use lib.ListN.{length};
 ghost use lib.Seq.{sets};
 ghost use Rattle.record.specs.Layout.{postsSize};
 ghost use Rattle.record.specs.Bytes.{postsOf, postsBytes};
-ghost use Rattle.record.specs.Head.{postsOn, waitingIn};
+ghost use Rattle.record.specs.inner.Head.{postsOn, waitingIn};
 use crate::head::PostsHead;
 use crate::layout;
 use crate::size;

@@ -4,9 +4,8 @@ ghost use Prim.Native.Nat.{_≤_};
 ghost use lib.ListN.{length};
 ghost use Rattle.frames.specs.Number.{mostNumber};
 ghost use Rattle.record.specs.Size.{heldContents, postContents};
-ghost use Rattle.record.specs.Head.{heldOn, logOn, postsOn, recordOn};
-ghost use Rattle.record.specs.Whole.{heldInRange, numbersInRange, logInRange, turnInRange, postsInRange, inRange};
-use crate::head::Head;
+ghost use Rattle.record.specs.inner.Head.{heldOn, logOn, postsOn};
+ghost use Rattle.record.specs.Whole.{heldInRange, numbersInRange, logInRange, turnInRange, postsInRange};
 use crate::head::LogHead;
 use crate::head::PostsHead;
 use crate::size;
@@ -44,7 +43,7 @@ fn numbers_in_range(l: LogHead, contents: &[u8]) -> bool
     true
 }
 
-fn log_in_range(l: LogHead, contents: &[u8]) -> bool
+pub fn log_in_range(l: LogHead, contents: &[u8]) -> bool
     requires { ⌜ length (now contents) ≡ heldContents ⌝ }
     ensures { λ r. ⌜ r ≡ logInRange (logOn l (now (contents .entry))) ⌝ }
 {
@@ -58,7 +57,7 @@ fn log_in_range(l: LogHead, contents: &[u8]) -> bool
     counted & level & delivered & held_in_range(l, contents) & numbers_in_range(l, contents)
 }
 
-fn turn_in_range(t: Turn) -> bool
+pub fn turn_in_range(t: Turn) -> bool
     ensures { λ r. ⌜ r ≡ turnInRange t ⌝ }
 {
     (t.aru.0 <= frames::MOST_NUMBER)
@@ -68,7 +67,7 @@ fn turn_in_range(t: Turn) -> bool
         & (t.size as usize <= frames::LONGEST_TOKEN)
 }
 
-fn posts_in_range(p: PostsHead, waiting: &[u8]) -> bool
+pub fn posts_in_range(p: PostsHead, waiting: &[u8]) -> bool
     requires { ⌜ length (now waiting) ≡ postContents ⌝ }
     ensures { λ r. ⌜ r ≡ postsInRange (postsOn p (now (waiting .entry))) ⌝ }
 {
@@ -77,11 +76,4 @@ fn posts_in_range(p: PostsHead, waiting: &[u8]) -> bool
     (p.count as usize <= size::MOST_POSTS)
         & words::all_within_u16(&services, 0, frames::MOST_SERVICE)
         & words::all_within_u8(&lengths, 0, frames::MOST_CONTENT as u8)
-}
-
-pub fn in_range(h: Head, contents: &[u8], waiting: &[u8]) -> bool
-    requires { ⌜ (length (now contents) ≡ heldContents) × (length (now waiting) ≡ postContents) ⌝ }
-    ensures { λ b. ⌜ b ≡ inRange (recordOn h (now (contents .entry)) (now (waiting .entry))) ⌝ }
-{
-    log_in_range(h.log, contents) & turn_in_range(h.turn) & posts_in_range(h.posts, waiting)
 }

@@ -8,12 +8,12 @@ ghost use Rattle.words.specs.Scan.{allZero};
 ghost use Rattle.frames.specs.Layout.{mostContent};
 ghost use Rattle.record.specs.Size.{heldContents, postContents};
 ghost use Rattle.record.specs.Count.{everyFrom};
-ghost use Rattle.record.specs.Head.{heldOn, logOn, postsOn, recordOn};
-ghost use Rattle.record.specs.Whole.{contentsPadded, freePlacesZero, logUnusedZero, postsUnusedZero, unusedZero};
-use crate::head::Head;
+ghost use Rattle.record.specs.inner.Head.{heldOn, logOn, postsOn};
+ghost use Rattle.record.specs.Whole.{contentsPadded, freePlacesZero, logUnusedZero, postsUnusedZero, turnUnusedZero};
 use crate::head::LogHead;
 use crate::head::PostsHead;
 use crate::size;
+use crate::turn::Turn;
 
 // Whatever stands from place n on is zero.
 fn zero_from_u16(s: &[u16], n: u8) -> bool
@@ -146,7 +146,7 @@ fn free_places_zero(l: LogHead, contents: &[u8]) -> bool
     good
 }
 
-fn log_unused_zero(l: LogHead, contents: &[u8]) -> bool
+pub fn log_unused_zero(l: LogHead, contents: &[u8]) -> bool
     requires { ⌜ length (now contents) ≡ heldContents ⌝ }
     ensures { λ r. ⌜ r ≡ logUnusedZero (logOn l (now (contents .entry))) ⌝ }
 {
@@ -157,7 +157,7 @@ fn log_unused_zero(l: LogHead, contents: &[u8]) -> bool
         & contents_padded(&lengths, contents)
 }
 
-fn posts_unused_zero(p: PostsHead, waiting: &[u8]) -> bool
+pub fn posts_unused_zero(p: PostsHead, waiting: &[u8]) -> bool
     requires { ⌜ length (now waiting) ≡ postContents ⌝ }
     ensures { λ r. ⌜ r ≡ postsUnusedZero (postsOn p (now (waiting .entry))) ⌝ }
 {
@@ -168,12 +168,9 @@ fn posts_unused_zero(p: PostsHead, waiting: &[u8]) -> bool
         & contents_padded(&lengths, waiting)
 }
 
-pub fn unused_zero(h: Head, contents: &[u8], waiting: &[u8]) -> bool
-    requires { ⌜ (length (now contents) ≡ heldContents) × (length (now waiting) ≡ postContents) ⌝ }
-    ensures { λ b. ⌜ b ≡ unusedZero (recordOn h (now (contents .entry)) (now (waiting .entry))) ⌝ }
+pub fn turn_unused_zero(t: Turn) -> bool
+    ensures { λ b. ⌜ b ≡ turnUnusedZero t ⌝ }
 {
-    let token = h.turn.token;
-    log_unused_zero(h.log, contents)
-        & posts_unused_zero(h.posts, waiting)
-        & zero_from_u8(&token, h.turn.size)
+    let token = t.token;
+    zero_from_u8(&token, t.size)
 }

@@ -1,6 +1,6 @@
 // Is a record whole?
 ghost use mathlib.Core.Path.{_≡_};
-ghost use mathlib.Core.Bool.{_&&_, cond};
+ghost use mathlib.Core.Bool.{cond};
 ghost use mathlib.Core.List.{map};
 ghost use Prim.Native.Nat.{_≤_};
 ghost use lib.Dec.{eqb};
@@ -8,14 +8,13 @@ ghost use lib.ListN.{length};
 ghost use Rattle.frames.specs.Number.{mostNumber};
 ghost use Rattle.frames.specs.Layout.{longestToken};
 ghost use Rattle.record.specs.Size.{mostMembers, heldContents, postContents};
-ghost use Rattle.record.specs.Head.{logOn, recordOn};
-ghost use Rattle.record.specs.Members.{foundable};
-ghost use Rattle.record.specs.Ring.{ids};
-ghost use Rattle.record.specs.Whole.{sendersAreMembers, resendPasses, marksInOrder, arusReached, heldToLevel, nextNotHeld, whole};
+ghost use Rattle.record.specs.inner.Head.{logOn, postsOn, recordOn};
+ghost use Rattle.record.specs.Whole.{sendersAreMembers, resendPasses, marksInOrder, arusReached, heldToLevel, nextNotHeld, logWhole, turnWhole, postsWhole, whole};
 use crate::Record;
 use crate::head;
 use crate::head::Head;
 use crate::head::LogHead;
+use crate::head::PostsHead;
 use crate::held;
 use crate::members;
 use crate::range;
@@ -110,37 +109,48 @@ fn next_not_held(l: LogHead, contents: &[u8]) -> bool
     !held::is_held(l.safe, &l.senders, MessageNumber(l.level.0 + 1))
 }
 
-// The clauses on members: held senders, the token that may be resent, the founding questions.
-fn members_agree(h: Head, contents: &[u8]) -> bool
-    requires { ⌜ (h .log .count ≤ mostMembers) × (h .turn .size ≤ longestToken) ⌝ }
-    ensures { λ b. ⌜ b ≡
-        (sendersAreMembers (ids (logOn (h .log) (now (contents .entry)))) (h .log .senders)
-        && resendPasses (h .log .ring .0) (ids (logOn (h .log) (now (contents .entry)))) (h .turn)
-        && foundable (ids (logOn (h .log) (now (contents .entry)))) (h .own) (h .log .ring .0)) ⌝ }
+// The clauses of the log: its ranges first, which the others need. Ruled out: a gap below the level; a stranger's
+// message held.
+fn log_whole(own: u16, l: LogHead, contents: &[u8]) -> bool
+    requires { ⌜ length (now contents) ≡ heldContents ⌝ }
+    ensures { λ b. ⌜ b ≡ logWhole own (logOn l (now (contents .entry))) ⌝ }
 {
-    let members = h.log.members;
-    let senders = h.log.senders;
-    let n = h.log.count as usize;
+    if !range::log_in_range(l, contents) {
+        return false;
+    }
+    let members = l.members;
+    let senders = l.senders;
+    let n = l.count as usize;
     let ids = &members[0..n];
-    let ring = h.log.ring;
     senders_are_members(ids, senders)
-        & resend_passes(ring, ids, h.turn)
-        & members::foundable_by(ids, h.own, ring)
+        & members::foundable_by(ids, own, l.ring)
+        & marks_in_order(l, contents)
+        & held_to_level(l, contents)
+        & next_not_held(l, contents)
+        & unused::log_unused_zero(l, contents)
 }
 
-// The clauses on marks: their order, both aru, what is held and what isn't.
-fn marks_agree(h: Head, contents: &[u8]) -> bool
-    requires { ⌜ (h .log .safe .0 ≤ mostNumber) × (h .log .level .0 ≤ mostNumber) ⌝ }
-    ensures { λ b. ⌜ b ≡
-        (marksInOrder (logOn (h .log) (now (contents .entry)))
-        && arusReached (h .turn) (h .log .level .0)
-        && heldToLevel (logOn (h .log) (now (contents .entry)))
-        && nextNotHeld (logOn (h .log) (now (contents .entry)))) ⌝ }
+// The clauses of the turn. Ruled out: a token of another ring; an aru above the level.
+fn turn_whole(l: LogHead, contents: &[u8], t: Turn) -> bool
+    requires { ⌜ l .count ≤ mostMembers ⌝ }
+    ensures { λ b. ⌜ b ≡ turnWhole (logOn l (now (contents .entry))) t ⌝ }
 {
-    marks_in_order(h.log, contents)
-        & arus_reached(h.turn, h.log.level)
-        & held_to_level(h.log, contents)
-        & next_not_held(h.log, contents)
+    if !range::turn_in_range(t) {
+        return false;
+    }
+    let members = l.members;
+    let n = l.count as usize;
+    resend_passes(l.ring, &members[0..n], t)
+        & arus_reached(t, l.level)
+        & unused::turn_unused_zero(t)
+}
+
+// The clauses of the posts.
+fn posts_whole(p: PostsHead, waiting: &[u8]) -> bool
+    requires { ⌜ length (now waiting) ≡ postContents ⌝ }
+    ensures { λ b. ⌜ b ≡ postsWhole (postsOn p (now (waiting .entry))) ⌝ }
+{
+    range::posts_in_range(p, waiting) & unused::posts_unused_zero(p, waiting)
 }
 
 // Any values of the head and any contents. Ruled out: a record with a gap below its level; one whose token
@@ -149,12 +159,10 @@ pub fn is_whole_on(h: Head, contents: &[u8], waiting: &[u8]) -> bool
     requires { ⌜ (length (now contents) ≡ heldContents) × (length (now waiting) ≡ postContents) ⌝ }
     ensures { λ b. ⌜ b ≡ whole (recordOn h (now (contents .entry)) (now (waiting .entry))) ⌝ }
 {
-    if !range::in_range(h, contents, waiting) {
+    if !log_whole(h.own, h.log, contents) {
         return false;
     }
-    members_agree(h, contents)
-        & marks_agree(h, contents)
-        & unused::unused_zero(h, contents, waiting)
+    turn_whole(h.log, contents, h.turn) & posts_whole(h.posts, waiting)
 }
 
 // The same of a record by value.

@@ -11,13 +11,13 @@ use Rattle.frames.specs.Message.{messageOf, messageFollows, messageFixed}
 use Rattle.frames.specs.Token.{requestsOf, requestsFollow, tokenOf, tokenFollows, tokenFixed}
 use Rattle.frames.specs.Read.{blankToken, readMessage, readToken, readOf}
 use Rattle.frames.specs.Trials.{firstBytes}
-use Rattle.record.specs.Count.{everyFrom}
-use Rattle.record.specs.Held.{holds, heldWith, cleared, clearedFrom, letGo}
+use Rattle.record.specs.Count.{everyFrom, those, numbersAfter}
+use Rattle.record.specs.Held.{holds, heldNumbers, heldWith, cleared, clearedFrom, letGo}
 use Rattle.record.specs.Posts.{postsFrom, queued, taken}
 use Rattle.record.specs.Members.{idsFollow, foundable}
 use Rattle.record.specs.Ring.{thisRing, tokenMembers, tokenPasses}
 use Rattle.record.specs.Fresh.{freshHeld, membersPlaced, freshLog, freshTurn, freshPosts, fresh}
-use Rattle.record.specs.Whole.{heldInRange, numbersInRange, logInRange, turnInRange, postsInRange, inRange, sendersAreMembers, resendPasses, marksInOrder, arusReached, heldToLevel, nextNotHeld, contentsPadded, freePlacesZero, logUnusedZero, postsUnusedZero, unusedZero, whole}
+use Rattle.record.specs.Whole.{heldInRange, numbersInRange, logInRange, turnInRange, postsInRange, sendersAreMembers, resendPasses, marksInOrder, arusReached, heldToLevel, nextNotHeld, contentsPadded, freePlacesZero, logUnusedZero, postsUnusedZero, turnUnusedZero, logWhole, turnWhole, postsWhole, whole}
 use Rattle.station.specs.Found.{firstToken, founded}
 use Rattle.station.specs.Post.{posted}
 use Rattle.station.specs.Resend.{resent}
@@ -25,7 +25,7 @@ use Rattle.visit.specs.Level.{reached, levelOf, raised}
 use Rattle.visit.specs.Deliver.{frameWith, dueFrom, due, delivered}
 use Rattle.visit.specs.Message.{isHad, logWithMessage, resendEnded}
 use Rattle.station.specs.Arrive.{messageHeard}
-use Rattle.visit.specs.Visit.{others, allowance, those, requests, repeats, unanswered, newCount, withSent, numbersAfter, newNumbers, highest′, logNow, setsAru, aru′, blocker′, stall′, deaf, safe′, missing, requests′, broadcasts, round′, nextIn, token′, turn′, log′, rec′, written}
+use Rattle.visit.specs.Visit.{others, allowance, requests, repeats, unanswered, newCount, withSent, newNumbers, highest′, logNow, setsAru, aru′, blocker′, stall′, deaf, safe′, missing, requests′, broadcasts, round′, nextIn, token′, turn′, log′, rec′, written}
 use Rattle.station.specs.Arrive.{accepted}
 use Rattle.visit.specs.Acceptable.{coversHeld}
 use Rattle.station.specs.Arrive.{messageArrived, tokenArrived, arrived}
@@ -37,7 +37,7 @@ use Rattle.station.specs.trials.Trials.{calling, table}
 
 -- opens all that a row computes with
 unfoldable pub opened : List Trial → Bool
-unfolding flatten wordBytes wordOf wordAt words wordsBytes every headerOf headerFollows headerBytes messageOf messageFollows messageFixed requestsOf requestsFollow tokenOf tokenFollows tokenFixed blankToken readMessage readToken readOf firstBytes everyFrom holds heldWith cleared clearedFrom letGo postsFrom queued taken idsFollow foundable thisRing tokenMembers tokenPasses freshHeld membersPlaced freshLog freshTurn freshPosts fresh heldInRange numbersInRange logInRange turnInRange postsInRange inRange sendersAreMembers resendPasses marksInOrder arusReached heldToLevel nextNotHeld contentsPadded freePlacesZero logUnusedZero postsUnusedZero unusedZero whole firstToken founded posted resent reached levelOf raised frameWith dueFrom due delivered isHad logWithMessage resendEnded messageHeard others allowance those requests repeats unanswered newCount withSent numbersAfter newNumbers highest′ logNow setsAru aru′ blocker′ stall′ deaf safe′ missing requests′ broadcasts round′ nextIn token′ turn′ log′ rec′ written accepted coversHeld messageArrived tokenArrived arrived framesUpTo framesIn sendersTo loadedWith allPass
+unfolding flatten wordBytes wordOf wordAt words wordsBytes every headerOf headerFollows headerBytes messageOf messageFollows messageFixed requestsOf requestsFollow tokenOf tokenFollows tokenFixed blankToken readMessage readToken readOf firstBytes everyFrom holds heldNumbers heldWith cleared clearedFrom letGo postsFrom queued taken idsFollow foundable thisRing tokenMembers tokenPasses freshHeld membersPlaced freshLog freshTurn freshPosts fresh heldInRange numbersInRange logInRange turnInRange postsInRange sendersAreMembers resendPasses marksInOrder arusReached heldToLevel nextNotHeld contentsPadded freePlacesZero logUnusedZero postsUnusedZero turnUnusedZero logWhole turnWhole postsWhole whole firstToken founded posted resent reached levelOf raised frameWith dueFrom due delivered isHad logWithMessage resendEnded messageHeard others allowance those requests repeats unanswered newCount withSent numbersAfter newNumbers highest′ logNow setsAru aru′ blocker′ stall′ deaf safe′ missing requests′ broadcasts round′ nextIn token′ turn′ log′ rec′ written accepted coversHeld messageArrived tokenArrived arrived framesUpTo framesIn sendersTo loadedWith allPass
 opened rows = allPass rows
 
 calling-pass : allPass calling ≡ true

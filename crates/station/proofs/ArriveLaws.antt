@@ -21,7 +21,7 @@ use Rattle.frames.specs.declared.reader.Answer.the-variants.{Refused as Unreada
 use Rattle.frames.proofs.Facts.{part}
 use Rattle.record.specs.Layout.{recordSize}
 use Rattle.record.specs.Bytes.{recordBytes}
-use Rattle.record.specs.Head.{recordIn}
+use Rattle.record.specs.inner.Head.{recordIn}
 use Rattle.record.specs.Lent.{lent}
 use Rattle.record.specs.Members.{isMember}
 use Rattle.record.specs.Ring.{current, ids, thisRing, tokenMembers}

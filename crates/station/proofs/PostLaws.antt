@@ -9,7 +9,7 @@ use Rattle.frames.specs.Layout.{mostService, mostContent}
 use Rattle.record.specs.Size.{mostPosts}
 use Rattle.record.specs.Posts.{queued}
 use Rattle.record.specs.Bytes.{recordBytes, recordOf}
-use Rattle.record.specs.Head.{withPosts}
+use Rattle.record.specs.Parts.{withPosts}
 use Rattle.record.specs.Lent.{lent}
 use Rattle.record.specs.Whole.{whole}
 use Rattle.record.specs.declared.Record.{Record}

@@ -5,6 +5,7 @@ use lib.ListN.{length}
 use lib.Dec.{leb, ltb}
 use Rattle.frames.specs.Layout.{mostService, mostContent}
 use Rattle.record.specs.Size.{mostPosts}
+use Rattle.record.specs.Parts.{withPosts}
 use Rattle.record.specs.Posts.{queued}
 use Rattle.record.specs.Whole.{whole}
 use Rattle.record.specs.declared.Record.{Record}
@@ -14,7 +15,7 @@ use Rattle.station.specs.declared.answer.Answer.the-variants.{Posted}
 
 -- the record with one post more, behind the others
 abbrev pub withPost : Record → ℕ → List ℕ → Record
-withPost r service content = record { own = r .own; log = r .log; turn = r .turn; posts = queued (r .posts) service content }
+withPost r service content = withPosts r (queued (r .posts) service content)
 
 unfoldable pub posted : Record → ℕ → List ℕ → Reply
 posted r service content =

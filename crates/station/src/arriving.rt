@@ -7,7 +7,7 @@ ghost use lib.ListN.{length};
 ghost use Rattle.frames.specs.Message.{messageFollows};
 ghost use Rattle.frames.specs.Token.{tokenFollows};
 ghost use Rattle.frames.specs.Read.{readOf};
-ghost use Rattle.record.specs.Head.{recordIn};
+ghost use Rattle.record.specs.inner.Head.{recordIn};
 ghost use Rattle.visit.specs.Output.{followedBy, mostFrames, mostDeliveries};
 ghost use Rattle.station.specs.Reply.{doneOf, answered, Does};
 ghost use Rattle.station.specs.Arrive.{readerRefusal, heardAnswer, messageArrived, tokenArrived, frameArrived, arrived};

@@ -7,12 +7,13 @@ use Rattle.words.specs.Run.{wordsBytes}
 use Rattle.words.specs.Scan.{every}
 use Rattle.frames.specs.Header.{headerBytes}
 use Rattle.frames.specs.Token.{tokenFixed}
+use Rattle.record.specs.Count.{those, numbersAfter}
 use Rattle.record.specs.Held.{holds, heldWith, cleared, clearedFrom, letGo}
 use Rattle.record.specs.Posts.{postsFrom, taken}
 use Rattle.record.specs.Fresh.{freshHeld, membersPlaced, freshLog, freshTurn, freshPosts, fresh}
 use Rattle.visit.specs.Level.{reached, levelOf, raised}
 use Rattle.visit.specs.Deliver.{frameWith, dueFrom, due, delivered}
-use Rattle.visit.specs.Visit.{others, allowance, those, requests, repeats, unanswered, newCount, withSent, numbersAfter, newNumbers, highest′, logNow, setsAru, aru′, blocker′, stall′, safe′, missing, requests′, broadcasts, round′, nextIn, token′, turn′, log′, rec′}
+use Rattle.visit.specs.Visit.{others, allowance, requests, repeats, unanswered, newCount, withSent, newNumbers, highest′, logNow, setsAru, aru′, blocker′, stall′, safe′, missing, requests′, broadcasts, round′, nextIn, token′, turn′, log′, rec′}
 use Rattle.visit.specs.trials.Sample.{sendersTo, allPass}
 use Rattle.visit.specs.trials.Marks.{marking}
 

@@ -10,7 +10,7 @@ use lib.Seq.{sets}
 use Rattle.frames.specs.Number.{mostNumber}
 use Rattle.frames.specs.Layout.{longestMessage, mostRequests}
 use Rattle.frames.specs.Header.{headerFollows}
-use Rattle.record.specs.Head.{logOn, headOf}
+use Rattle.record.specs.inner.Head.{logOn, headOf}
 use Rattle.record.specs.Held.{holds}
 use Rattle.record.specs.Posts.{waiting}
 use Rattle.record.specs.Whole.{postsInRange}
@@ -19,7 +19,8 @@ use Rattle.record.proofs.WholeFacts.{LogGood}
 use Rattle.visit.specs.Level.{raised}
 use Rattle.visit.specs.Output.{mostFrames}
 use Rattle.visit.specs.Deliver.{ringHeader, frameOf, joined}
-use Rattle.visit.specs.Visit.{Visit, log, own, posts, those, requests, repeats, unanswered, newCount, withSent, logNow, broadcasts}
+use Rattle.visit.specs.Visit.{Visit, log, own, posts, requests, repeats, unanswered, newCount, withSent, logNow, broadcasts}
+use Rattle.record.specs.Count.{those}
 use Rattle.visit.specs.Reads.{Each}
 use Rattle.visit.specs.Acceptable.{Acceptable}
 use Rattle.visit.specs.inner.Steps.{listed, listIn, repeatFrames, sentOf}

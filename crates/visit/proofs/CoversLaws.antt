@@ -1,6 +1,6 @@
 -- 18, place by place.
 use Prim.Native.Nat.{ℕ, suc, _+_, _-_, _<_, _≤_}
-use mathlib.Core.Path.{_≡_, refl, _∙_}
+use mathlib.Core.Path.{_≡_, refl, sym, _∙_}
 use mathlib.Core.Bool.{Bool, true, false, not, _||_}
 use mathlib.Core.List.{List}
 use borrow.Author.Tests.{le-leb, lt-leb, le-ltb, lt-ltb}
@@ -13,6 +13,7 @@ use Rattle.record.specs.Count.{everyFrom}
 use Rattle.record.specs.Held.{placeOf, holds}
 use Rattle.record.specs.declared.log.Log.{Log}
 use Rattle.record.proofs.PlaceLaws.{beforeIn, by-place, before-place, held-in-place}
+use Rattle.record.proofs.HeldNumbers.{held-within}
 use Rattle.visit.specs.Acceptable.{coversHeld}
 
 -- the question of a place, as the code asks
@@ -47,4 +48,4 @@ module _ (l : Log) (highest : ℕ) where
       → good ≡ everyFrom (placeCovered (l .held .senders) (highest - l .safe .0) (l .safe .0)) 0 mostHeld
       → good ≡ coversHeld l highest
   unfolding coversHeld
-  covers-by-place good h e = e ∙ rw (le-leb (l .level .0) highest h) (by-place (l .safe .0) _ (λ n. leb n highest || not (holds l n)) same)
+  covers-by-place good h e = e ∙ rw (le-leb (l .level .0) highest h) (by-place (l .safe .0) _ (λ n. leb n highest || not (holds l n)) same ∙ sym (held-within l highest))

@@ -15,7 +15,7 @@ use Rattle.record.specs.declared.log.Log.{Log}
 use Rattle.record.proofs.WholeFacts.{LogGood}
 use Rattle.visit.specs.Output.{followedBy, mostDeliveries}
 use Rattle.visit.specs.Deliver.{frameOf, joined, isDue, dueFrom, due, handedOut}
-use Rattle.visit.specs.Visit.{numbersAfter}
+use Rattle.record.specs.Count.{numbersAfter}
 use Rattle.visit.proofs.DueLaws.{due-most}
 use Rattle.visit.proofs.FrameLaws.{Writable, handed-fits}
 use Rattle.visit.proofs.LogSteps.{level-window}

@@ -9,7 +9,7 @@ use lib.ListN.{length, take}
 use lib.Dec.{eqb}
 use Rattle.words.specs.Scan.{every, lacks, distinct}
 use Rattle.frames.proofs.Facts.{part}
-use Rattle.visit.specs.Visit.{those, numbersAfter}
+use Rattle.record.specs.Count.{those, numbersAfter}
 use Rattle.visit.specs.Reads.{Each}
 
 -- ---- of any list

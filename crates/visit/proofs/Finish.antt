@@ -13,21 +13,22 @@ use Rattle.frames.specs.Layout.{longestMessage, longestToken}
 use Rattle.frames.specs.Token.{tokenBytes}
 use Rattle.frames.specs.Header.{headerFollows}
 use Rattle.record.specs.Size.{mostPosts}
-use Rattle.record.specs.Head.{logOn, headOf}
+use Rattle.record.specs.inner.Head.{logOn, headOf}
 use Rattle.record.specs.Held.{holds, letGo}
+use Rattle.record.specs.Parts.{withParts}
 use Rattle.record.specs.Posts.{waiting, taken}
 use Rattle.record.specs.Turn.{remembered}
 use Rattle.record.specs.Whole.{postsInRange}
 use Rattle.record.specs.declared.head.LogHead.{LogHead}
 use Rattle.record.specs.declared.log.Log.{Log}
 use Rattle.record.specs.declared.posts.Posts.{Posts}
-use Rattle.record.specs.declared.Record.{Record}
 use Rattle.record.proofs.RangeFacts.{posts-range}
 use Rattle.record.proofs.WholeFacts.{LogGood}
 use Rattle.visit.specs.Output.{followedBy, mostFrames, mostDeliveries}
 use Rattle.visit.specs.Level.{raised}
 use Rattle.visit.specs.Deliver.{ringHeader, frameOf, joined, handedOut, delivered}
-use Rattle.visit.specs.Visit.{Visit, log, own, posts, withSent, numbersAfter, newNumbers, logNow, highest′, safe′, token′, turn′, log′, rec′, deaf, written, handed, visitedOf}
+use Rattle.visit.specs.Visit.{Visit, log, own, posts, withSent, newNumbers, logNow, highest′, safe′, token′, turn′, log′, rec′, deaf, written, handed, visitedOf}
+use Rattle.record.specs.Count.{numbersAfter}
 use Rattle.visit.specs.Acceptable.{Acceptable}
 use Rattle.visit.specs.inner.Steps.{repeatFrames, newFrames, sentFrames, sentOf, forwardedOf}
 use Rattle.visit.specs.declared.broadcasting.Sent.{Sent}
@@ -179,7 +180,7 @@ module _ (v : Visit) (a : Acceptable v) where
 
       pub left-record : (p : Posts)
           → p ≡ posts v
-          → _≡_ {A = Record} (record { own = own v; log = letGo (delivered l (f .safe .0)) (f .safe .0); turn = f .turn; posts = taken p (b .added) }) (rec′ v)
+          → withParts (v .rec) (letGo (delivered l (f .safe .0)) (f .safe .0)) (f .turn) (taken p (b .added)) ≡ rec′ v
       unfolding rec′ log′
       left-record p e = rw (now-is, forward-safe, the-turn, e, sent-added v a b sends)
 

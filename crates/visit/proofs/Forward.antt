@@ -18,11 +18,12 @@ use Rattle.frames.specs.declared.header.Header.{Header}
 use Rattle.frames.specs.declared.token.Token.{Token}
 use Rattle.frames.proofs.TokenLaws.{drop-replicate}
 use Rattle.record.specs.Size.{mostMembers, mostHeld, mostStall}
-use Rattle.record.specs.Head.{logOn, headOf}
+use Rattle.record.specs.inner.Head.{logOn, headOf}
 use Rattle.record.specs.Held.{holds}
 use Rattle.record.specs.declared.turn.Turn.{Turn}
 use Rattle.visit.specs.Deliver.{ringHeader}
-use Rattle.visit.specs.Visit.{Visit, log, own, turn, those, numbersAfter, others, requests, unanswered, newCount, highest′, logNow, isNobody, isOwn, setsAru, aru′, blocker′, deafAbove, stall′, deaf, safe′, missing, requests′, broadcasts, round′, nextMember, token′, turn′}
+use Rattle.visit.specs.Visit.{Visit, log, own, turn, others, requests, unanswered, newCount, highest′, logNow, isNobody, isOwn, setsAru, aru′, blocker′, deafAbove, stall′, deaf, safe′, missing, requests′, broadcasts, round′, nextMember, token′, turn′}
+use Rattle.record.specs.Count.{those, numbersAfter}
 use Rattle.visit.specs.Acceptable.{Acceptable}
 use Rattle.visit.specs.inner.Steps.{listed, listIn, sentOf, reachAfter, reachOf, forwardedOf}
 use Rattle.visit.specs.declared.requests.Requests.{Requests}

@@ -2,7 +2,7 @@
 use Prim.Native.Nat.{ℕ, zero, suc, _+_, _-_, _<_, _≤_}
 use mathlib.Core.Path.{_≡_, refl, sym, ap, _∙_}
 use mathlib.Core.Bool.{Bool, true, false, not, _&&_, cond}
-use mathlib.Core.List.{List, []}
+use mathlib.Core.List.{List}
 use native.Mathlib.Numerals.{add-one}
 use native.Mathlib.Omega.{arith}
 use lib.ListN.{length, getD}
@@ -14,9 +14,10 @@ use Rattle.frames.specs.declared.number.MessageNumber.{MessageNumber}
 use Rattle.frames.proofs.Facts.{message-facts}
 use Rattle.record.specs.Size.{mostHeld}
 use Rattle.record.specs.Bytes.{recordBytes}
-use Rattle.record.specs.Head.{logOn, postsOn, recordIn, contentsIn, waitingIn}
+use Rattle.record.specs.inner.Head.{logOn, recordIn, contentsIn}
+use Rattle.record.specs.Parts.{withParts}
 use Rattle.record.specs.Held.{placeOf, holds, logWith, stored}
-use Rattle.record.specs.Layout.{logAt, postsAt}
+use Rattle.record.specs.Layout.{logAt}
 use Rattle.record.specs.declared.head.LogHead.{LogHead}
 use Rattle.record.specs.declared.head.Head.{Head}
 use Rattle.record.specs.declared.head.LogHead.{LogHead}
@@ -121,7 +122,7 @@ abbrev heardOn : Record → Log → Hearing → Result
 heardOn r l how =
     record {
       heard = record { how = how; size = length (handedOut l (l .safe .0)) };
-      rec = record { own = r .own; log = delivered l (l .safe .0); turn = resendEnded (r .turn); posts = r .posts };
+      rec = withParts r (delivered l (l .safe .0)) (resendEnded (r .turn)) (r .posts);
       out = handedOut l (l .safe .0);
     }
 
@@ -144,7 +145,7 @@ module _ (h : Head) (s contents : List ℕ) (reads : contents ≡ contentsIn s l
 
   pub leaves-heard : (result : Result) (how : Hearing) → result ≡ heardOn (recordIn h s) (logOn l (contentsIn s logAt)) how → Leaves result (record { how = how; size = size }) s′ out out′
   leaves-heard result how e =
-      let rest : Log → Record = λ (x : Log). record { own = h .own; log = x; turn = resendEnded (h .turn); posts = postsOn (h .posts) (waitingIn s postsAt) } in
+      let rest : Log → Record = λ (x : Log). withParts (recordIn h s) x (resendEnded (h .turn)) (recordIn h s .posts) in
       rw e (ap (λ n. record { how = how; size = n }) (puts .0 ∙ there .1), puts .1 ∙ ap (λ (x : Log). recordBytes (rest x)) after, there .2)
 
 -- ---- had, or ahead, or kept

@@ -7,7 +7,7 @@ use native.Mathlib.Omega.{arith}
 use lib.ListN.{length, getD, set, take, drop, length-drop}
 use lib.Seq.{sets, take-at, length-take-le}
 use Rattle.frames.specs.Layout.{mostContent}
-use Rattle.record.specs.Head.{logOn, headOf, headWith}
+use Rattle.record.specs.inner.Head.{logOn, headOf, headWith}
 use Rattle.record.specs.Held.{placeOf, heldWith}
 use Rattle.record.specs.Posts.{Post, postAt, postsFrom, waiting}
 use Rattle.record.specs.declared.head.LogHead.{LogHead}

@@ -18,7 +18,7 @@ use Rattle.record.proofs.WholeFacts.{whole-good}
 use Rattle.visit.specs.Level.{raised}
 use Rattle.visit.specs.Deliver.{frameWith, frameOf, joined}
 use Rattle.visit.specs.Message.{entryIn}
-use Rattle.visit.specs.Visit.{numbersAfter}
+use Rattle.record.specs.Count.{numbersAfter}
 use Rattle.visit.specs.Acceptable.{Hearable}
 use Rattle.visit.specs.inner.Steps.{JustKept}
 use Rattle.visit.proofs.RingFacts.{header-here}

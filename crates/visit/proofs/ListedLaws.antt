@@ -8,7 +8,7 @@ use native.Mathlib.Omega.{arith}
 use lib.ListN.{length, getD, set, take, replicate, length-append, length-take}
 use lib.Seq.{take-all, take-at, take-suc, set-at, append-snoc}
 use Rattle.frames.specs.Layout.{mostRequests}
-use Rattle.visit.specs.Visit.{those, numbersAfter}
+use Rattle.record.specs.Count.{those, numbersAfter}
 use Rattle.visit.specs.inner.Steps.{listed, listIn}
 use Rattle.visit.specs.declared.requests.Requests.{Requests}
 use Rattle.visit.proofs.EachLaws.{those-length}

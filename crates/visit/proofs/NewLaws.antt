@@ -9,10 +9,10 @@ use native.Mathlib.Omega.{arith}
 use lib.ListN.{length, getD}
 use Rattle.frames.specs.Layout.{mostContent}
 use Rattle.record.specs.Size.{mostHeld}
-use Rattle.record.specs.Held.{placeOf, holds, heldAt, logWith, stored}
+use Rattle.record.specs.Held.{placeOf, holds, logWith, stored}
+use Rattle.record.proofs.HeldLaws.{heldAt, HeldSizes, sizes-with, stored-same, stored-other, given, holds-is}
 use Rattle.record.specs.Posts.{Post}
 use Rattle.record.specs.declared.log.Log.{Log}
-use Rattle.record.proofs.HeldLaws.{HeldSizes, sizes-with, stored-same, stored-other, given, holds-is}
 use Rattle.visit.specs.Visit.{sentBy, withSent}
 use Rattle.visit.specs.Reads.{Each}
 

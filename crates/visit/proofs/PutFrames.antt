@@ -21,7 +21,7 @@ use Rattle.record.specs.declared.log.Held.{Held}
 use Rattle.record.specs.declared.log.Log.{Log}
 use Rattle.visit.specs.Output.{followedBy}
 use Rattle.visit.specs.Deliver.{ringHeader, frameWith, frameOf, joined}
-use Rattle.visit.specs.Visit.{numbersAfter}
+use Rattle.record.specs.Count.{numbersAfter}
 use Rattle.visit.specs.Reads.{Each}
 use Rattle.visit.specs.inner.Steps.{heldMessage, heldFrame, Frameable}
 use Rattle.visit.proofs.EachLaws.{Between, each-map, after-between, after-length}

@@ -15,7 +15,8 @@ use Rattle.frames.proofs.Facts.{part}
 use Rattle.record.specs.Size.{mostHeld}
 use Rattle.record.specs.Held.{holds}
 use Rattle.record.proofs.ListLaws.{all-within, most-zeros}
-use Rattle.visit.specs.Visit.{Visit, log, requests, unanswered, highest′, logNow, level′, safe′, newCount, missing, requests′, numbersAfter}
+use Rattle.visit.specs.Visit.{Visit, log, requests, unanswered, highest′, logNow, level′, safe′, newCount, missing, requests′}
+use Rattle.record.specs.Count.{numbersAfter}
 use Rattle.visit.specs.Reads.{Each}
 use Rattle.visit.specs.Acceptable.{Acceptable}
 use Rattle.visit.proofs.EachLaws.{Between, each-map, each-append, each-take, every-of, of-every, those-each, those-pass, Distinct, distinct-of, of-distinct, distinct-those, distinct-take, distinct-append, after-between, after-distinct}

@@ -1,7 +1,7 @@
 -- What an acceptable visit tells: its counts, and what is held once the new messages are.
-use Prim.Native.Nat.{ℕ, suc, _+_, _-_, _<_, _≤_}
+use Prim.Native.Nat.{ℕ, _+_, _-_, _<_, _≤_}
 use mathlib.Core.Path.{_≡_, sym, ap, _∙_}
-use mathlib.Core.Bool.{true, false, not, _||_, and-false}
+use mathlib.Core.Bool.{true, false, and-false}
 use mathlib.Core.List.{List}
 use borrow.Author.Tests.{leb-true}
 use native.Mathlib.Decide.{decLt}
@@ -9,20 +9,18 @@ use native.Mathlib.Omega.{arith}
 use lib.ListN.{length, take, length-take}
 use lib.Dec.{leb}
 use lib.Seq.{length-take-le}
+use Rattle.words.specs.Scan.{allWithin}
 use Rattle.frames.specs.Number.{mostNumber}
 use Rattle.frames.specs.Layout.{mostContent, mostRound}
 use Rattle.frames.proofs.Facts.{part, TokenFacts, token-facts}
 use Rattle.record.specs.Size.{mostHeld, mostBroadcasts}
-use Rattle.record.specs.Count.{everyFrom}
-use Rattle.record.specs.Held.{holds, logWith}
+use Rattle.record.specs.Held.{holds, heldNumbers, logWith}
 use Rattle.record.specs.Posts.{Post, waiting}
 use Rattle.record.specs.Ring.{ids}
 use Rattle.record.specs.declared.log.Log.{Log}
-use Rattle.record.proofs.CountLaws.{run-passes}
 use Rattle.record.proofs.HeldLaws.{held-sizes}
-use Rattle.record.proofs.HeldFacts.{first-of}
+use Rattle.record.proofs.HeldFacts.{within-held}
 use Rattle.record.proofs.HeldWhole.{EntryGood}
-use Rattle.record.proofs.LogWhole.{holding}
 use Rattle.record.proofs.MemberLaws.{own-most}
 use Rattle.record.proofs.PostLaws.{length-waiting}
 use Rattle.record.proofs.RangeFacts.{posts-range}
@@ -94,11 +92,8 @@ module _ (v : Visit) (a : Acceptable v) where
   pub held-highest : (n : ℕ) → holds (log v) n ≡ true → n ≤ v .token .highest .0
   unfolding coversHeld
   held-highest n h =
-      let l = log v in
       let top = v .token .highest .0 in
-      let inside = holding l n h in
-      let all = part (a .covers) (λ (f : everyFrom (λ k. leb k top || not (holds l k)) (suc (l .safe .0)) mostHeld ≡ false). simp (f, and-false)) in
-      leb-true n top (first-of (leb n top) (holds l n) (run-passes (λ k. leb k top || not (holds l k)) (l .safe .0) mostHeld all n (inside .low) (inside .high)) h)
+      within-held (log v) top (part (a .covers) (λ (f : allWithin 1 top (heldNumbers (log v)) ≡ false). simp (f, and-false))) n h
 
   pub safe-highest : log v .safe .0 ≤ v .token .highest .0
   safe-highest = omega (arith, level-highest, facts .log .ready .marks)

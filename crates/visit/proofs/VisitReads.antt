@@ -15,7 +15,8 @@ use Rattle.record.specs.Size.{mostBroadcasts}
 use Rattle.record.specs.Ring.{ids}
 use Rattle.visit.specs.Output.{mostFrames, mostDeliveries}
 use Rattle.visit.specs.Deliver.{frameOf, joined}
-use Rattle.visit.specs.Visit.{Visit, log, own, nextMember, requests, repeats, newCount, newNumbers, numbersAfter, highest′, logNow, safe′, broadcasts, token′, written, handed}
+use Rattle.visit.specs.Visit.{Visit, log, own, nextMember, requests, repeats, newCount, newNumbers, highest′, logNow, safe′, broadcasts, token′, written, handed}
+use Rattle.record.specs.Count.{numbersAfter}
 use Rattle.visit.specs.Within.{framesIn}
 use Rattle.visit.specs.Reads.{Each, HeldReads, VisitReads, AcceptedReads}
 use Rattle.visit.specs.Acceptable.{Acceptable}

@@ -1,17 +1,16 @@
 -- What has been asked of a message before it is heard, and of a token before it is accepted. [document 01, Questions at the door: 2, 12 to 18]
-use Prim.Native.Nat.{ℕ, suc, _<_}
+use Prim.Native.Nat.{ℕ, _<_}
 use mathlib.Core.Path.{_≡_}
-use mathlib.Core.Bool.{Bool, true, not, _&&_, _||_}
+use mathlib.Core.Bool.{Bool, true, _&&_}
 use mathlib.Core.List.{List}
 use lib.Dec.{leb}
+use Rattle.words.specs.Scan.{allWithin}
 use Rattle.frames.specs.Number.{mostNumber}
 use Rattle.frames.specs.Message.{messageFollows}
 use Rattle.frames.specs.Token.{tokenFollows}
 use Rattle.frames.specs.declared.message.Message.{Message}
 use Rattle.frames.specs.declared.token.Token.{Token}
-use Rattle.record.specs.Size.{mostHeld}
-use Rattle.record.specs.Count.{everyFrom}
-use Rattle.record.specs.Held.{holds}
+use Rattle.record.specs.Held.{heldNumbers}
 use Rattle.record.specs.Members.{isMember}
 use Rattle.record.specs.Ring.{current, ids, thisRing, tokenMembers}
 use Rattle.record.specs.Whole.{whole}
@@ -21,7 +20,7 @@ use Rattle.visit.specs.Visit.{Visit, log, own}
 
 -- 18. Is its highest at least the level and every number held here?
 unfoldable pub coversHeld : Log → ℕ → Bool
-coversHeld l highest = leb (l .level .0) highest && everyFrom (λ n. leb n highest || not (holds l n)) (suc (l .safe .0)) mostHeld
+coversHeld l highest = leb (l .level .0) highest && allWithin 1 highest (heldNumbers l)
 
 -- a message that passes 2 and 12 to 14
 pub record Hearable (r : Record) (m : Message) (content : List ℕ) : Type 0 where

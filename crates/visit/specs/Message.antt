@@ -7,6 +7,7 @@ use lib.Dec.{leb, ltb}
 use Rattle.frames.specs.Layout.{longestToken}
 use Rattle.frames.specs.declared.message.Message.{Message}
 use Rattle.record.specs.Size.{mostHeld}
+use Rattle.record.specs.Parts.{withParts}
 use Rattle.record.specs.Held.{Entry, holds, stored}
 use Rattle.record.specs.Ring.{current}
 use Rattle.record.specs.declared.log.Log.{Log}
@@ -54,7 +55,7 @@ resendEnded t =
 abbrev pub recHeard : Record → Message → List ℕ → Record
 recHeard r m content =
     let l = logWithMessage (current r) m content in
-    record { own = r .own; log = delivered l (l .safe .0); turn = resendEnded (r .turn); posts = r .posts }
+    withParts r (delivered l (l .safe .0)) (resendEnded (r .turn)) (r .posts)
 
 -- and what is handed out
 abbrev pub handedHeard : Record → Message → List ℕ → List ℕ

@@ -1,7 +1,7 @@
 -- A token is accepted: steps 1 to 9. [document 01, A token is accepted; the paper's Figure 3, 'regular token received']
 -- A visit is a record and the token that arrives. Every quantity is a function of the visit; a prime marks the value after it. In square
 -- brackets stands the paper's name. 'Not below 0' needs no word: `a - b` is 0 where b is the larger.
-use Prim.Native.Nat.{ℕ, zero, suc, _+_, _-_, min, max}
+use Prim.Native.Nat.{ℕ, suc, _+_, _-_, min, max}
 use mathlib.Core.Bool.{Bool, true, false, not, _&&_, _||_, cond}
 use mathlib.Core.List.{List, [], _∷_, _++_, map}
 use lib.ListN.{length, getD, take, replicate}
@@ -14,6 +14,8 @@ use Rattle.frames.specs.declared.token.Blocker.{Blocker}
 use Rattle.frames.specs.declared.token.Blocker.the-variants.{Nobody, Member}
 use Rattle.frames.specs.declared.token.Token.{Token}
 use Rattle.record.specs.Size.{mostHeld, mostStall}
+use Rattle.record.specs.Count.{numbersAfter, those}
+use Rattle.record.specs.Parts.{withParts}
 use Rattle.record.specs.Held.{Entry, holds, stored, letGo}
 use Rattle.record.specs.Posts.{Post, waiting, taken}
 use Rattle.record.specs.Members.{representative}
@@ -61,11 +63,6 @@ allowance v = min mostNew (mostInRound - others v)
 
 -- ---- 2. Requests [rtr] whose message is held are broadcast, and struck off
 
--- those that pass, in their order
-unfoldable pub those : (ℕ → Bool) → List ℕ → List ℕ
-those test [] = []
-those test (n ∷ ns) = cond (test n) (n ∷ those test ns) (those test ns)
-
 unfoldable pub requests : Visit → List ℕ
 requests v = take (v .token .count) (v .token .requests)
 
@@ -93,11 +90,6 @@ sentBy own p = record { sender = own; service = p .service; content = p .content
 unfoldable pub withSent : Log → ℕ → ℕ → List Post → Log
 withSent l own highest [] = l
 withSent l own highest (p ∷ ps) = withSent (stored l (suc highest) (sentBy own p)) own (suc highest) ps
-
--- the n numbers after `last`
-unfoldable pub numbersAfter : ℕ → ℕ → List ℕ
-numbersAfter last zero = []
-numbersAfter last (suc n) = suc last ∷ numbersAfter (suc last) n
 
 -- the numbers of the new messages
 unfoldable pub newNumbers : Visit → List ℕ
@@ -223,7 +215,7 @@ log′ v = letGo (delivered (logNow v) (safe′ v)) (safe′ v)
 
 -- a broadcast post waits no longer
 unfoldable pub rec′ : Visit → Record
-rec′ v = record { own = own v; log = log′ v; turn = turn′ v; posts = taken (posts v) (newCount v) }
+rec′ v = withParts (v .rec) (log′ v) (turn′ v) (taken (posts v) (newCount v))
 
 -- ---- written out: repeats, new messages, token
 

@@ -7,7 +7,7 @@ ghost use lib.ListN.{length};
 ghost use lib.Seq.{sets};
 ghost use Rattle.frames.specs.Layout.{longestMessage, mostRequests};
 ghost use Rattle.frames.specs.Header.{headerFollows};
-ghost use Rattle.record.specs.Head.{logOn, recordIn};
+ghost use Rattle.record.specs.inner.Head.{logOn, recordIn};
 ghost use Rattle.record.specs.Layout.{recordSize};
 ghost use Rattle.record.specs.Held.{holds};
 ghost use Rattle.record.proofs.WholeFacts.{LogGood};

@@ -2,7 +2,7 @@
 ghost use mathlib.Core.Path.{_≡_};
 ghost use mathlib.Core.List.{List};
 ghost use Prim.Native.Nat.{ℕ};
-ghost use Rattle.record.specs.Head.{logOn};
+ghost use Rattle.record.specs.inner.Head.{logOn};
 ghost use Rattle.visit.specs.Acceptable.{coversHeld};
 use frames::MessageNumber;
 use record::LogHead;

@@ -4,7 +4,7 @@ ghost use Prim.Native.Nat.{_+_, _-_, _≤_, min};
 ghost use lib.ListN.{length};
 ghost use Rattle.frames.specs.Number.{mostNumber};
 ghost use Rattle.frames.specs.Layout.{mostRound};
-ghost use Rattle.record.specs.Head.{recordIn};
+ghost use Rattle.record.specs.inner.Head.{recordIn};
 ghost use Rattle.visit.specs.Visit.{mostNew, mostInRound, repeats as Visit·repeats, newCount};
 ghost use Rattle.visit.specs.Acceptable.{visit};
 use frames::Token;

@@ -1,6 +1,6 @@
 // Steps 4 to 8 of a visit: the token that is forwarded and remembered.
 ghost use mathlib.Core.Path.{_≡_};
-ghost use Rattle.record.specs.Head.{recordIn};
+ghost use Rattle.record.specs.inner.Head.{recordIn};
 ghost use Rattle.visit.specs.Visit.{requests′, safe′, stall′, token′, turn′};
 ghost use Rattle.visit.specs.Acceptable.{Acceptable, visit};
 ghost use Rattle.visit.specs.inner.Steps.{listed, sentOf, reachOf, forwardedOf};

@@ -3,13 +3,13 @@
 ghost use mathlib.Core.Path.{_≡_};
 ghost use mathlib.Core.List.{List};
 ghost use Prim.Native.Nat.{ℕ, _+_, _≤_};
-ghost use lib.ListN.{length};
+ghost use lib.ListN.{length, drop};
 ghost use Rattle.frames.specs.Number.{mostNumber};
 ghost use Rattle.frames.specs.Layout.{mostContent};
 ghost use Rattle.record.specs.Bytes.{recordBytes};
-ghost use Rattle.record.specs.Head.{logOn, recordIn, contentsIn, waitingIn};
+ghost use Rattle.record.specs.inner.Head.{logOn, recordIn, contentsIn};
 ghost use Rattle.record.specs.Held.{stored};
-ghost use Rattle.record.specs.Layout.{recordSize, logAt, postsAt};
+ghost use Rattle.record.specs.Layout.{recordSize, logAt, turnAt};
 ghost use Rattle.visit.specs.Output.{followedBy, mostDeliveries};
 ghost use Rattle.visit.specs.Level.{raised};
 ghost use Rattle.visit.specs.Message.{isHad, isAhead, entryIn, resendEnded, recHeard, handedHeard, heardOf};
@@ -64,7 +64,7 @@ fn keep(l: LogHead, s: &mut [u8], m: Message, content: &[u8]) -> LogHead
     ensures { λ r. ⌜
         (logOn r (contentsIn (now (s .exit)) logAt)
         ≡ raised (stored (logOn l (contentsIn (now (s .entry)) logAt)) (m .number .0) (entryIn m (now (content .entry)))))
-        × (waitingIn (now (s .exit)) postsAt ≡ waitingIn (now (s .entry)) postsAt) ⌝ }
+        × (drop turnAt (now (s .exit)) ≡ drop turnAt (now (s .entry))) ⌝ }
 {
     let stored = record::store_in(l, s, m.number, m.sender, m.service, content);
     let senders = stored.senders;
@@ -104,13 +104,7 @@ fn put_heard(h: Head, s: &mut [u8], l: LogHead, handed: Handed) -> u16
     let mut log = l;
     log.delivered = mark;
     let turn = resend_ended(h.turn);
-    let posts = h.posts;
-    let after = Head {
-        own: h.own,
-        log,
-        turn,
-        posts,
-    };
+    let after = record::with_parts(h, log, turn, h.posts);
     record::put_head(s, after);
     handed.size as u16
 }

@@ -7,7 +7,7 @@ ghost use lib.ListN.{getD};
 ghost use lib.Dec.{ltb, leb, eqb};
 ghost use Rattle.frames.specs.Number.{mostNumber};
 ghost use Rattle.record.specs.Size.{mostHeld};
-ghost use Rattle.record.specs.Head.{logOn};
+ghost use Rattle.record.specs.inner.Head.{logOn};
 ghost use Rattle.record.specs.Held.{placeOf};
 ghost use Rattle.visit.specs.Level.{reached, raised};
 use frames::MessageNumber;

@@ -3,10 +3,10 @@
 ghost use mathlib.Core.Path.{_≡_};
 ghost use mathlib.Core.Bool.{true};
 ghost use Prim.Native.Nat.{ℕ, _+_, _≤_};
-ghost use lib.ListN.{length, take};
+ghost use lib.ListN.{length, take, drop};
 ghost use Rattle.frames.specs.Number.{mostNumber};
-ghost use Rattle.record.specs.Head.{logOn, postsOn, recordIn, headOf, contentsIn, waitingIn};
-ghost use Rattle.record.specs.Layout.{recordSize, logAt, postsAt};
+ghost use Rattle.record.specs.inner.Head.{logOn, postsOn, recordIn, headOf, contentsIn, waitingIn};
+ghost use Rattle.record.specs.Layout.{recordSize, logAt, turnAt, postsAt};
 ghost use Rattle.record.specs.Posts.{waiting};
 ghost use Rattle.record.specs.Whole.{postsInRange};
 ghost use Rattle.record.specs.declared.head.LogHead.{LogHead as Head·LogHead};
@@ -64,7 +64,7 @@ pub fn place_new(s: &mut [u8], posts: PostsHead, highest: MessageNumber, n: u32)
         ((l : Head·LogHead) (own : ℕ) → contentsIn (now (s .exit)) logAt
         ≡ withSent (logOn l (contentsIn (now (s .entry)) logAt)) own (highest .0)
         (take n (waiting (postsOn posts (waitingIn (now (s .entry)) postsAt)))) .held .contents)
-        × (waitingIn (now (s .exit)) postsAt ≡ waitingIn (now (s .entry)) postsAt) ⌝ }
+        × (drop turnAt (now (s .exit)) ≡ drop turnAt (now (s .entry))) ⌝ }
 {
     let lengths = posts.lengths;
     let mut i = 0;

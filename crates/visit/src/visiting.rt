@@ -4,15 +4,16 @@ ghost use mathlib.Core.Path.{_≡_};
 ghost use mathlib.Core.Bool.{true};
 ghost use mathlib.Core.List.{_++_};
 ghost use Prim.Native.Nat.{_≤_};
-ghost use lib.ListN.{length};
+ghost use lib.ListN.{length, drop};
 ghost use lib.Seq.{sets};
 ghost use Rattle.frames.specs.Number.{mostNumber};
 ghost use Rattle.frames.specs.Header.{headerFollows};
 ghost use Rattle.frames.specs.Token.{tokenBytes};
 ghost use Rattle.record.specs.Bytes.{recordBytes};
-ghost use Rattle.record.specs.Head.{logOn, recordIn, contentsIn, waitingIn};
+ghost use Rattle.record.specs.inner.Head.{logOn, recordIn, contentsIn};
 ghost use Rattle.record.specs.Held.{letGo};
-ghost use Rattle.record.specs.Layout.{recordSize, logAt, postsAt};
+ghost use Rattle.record.specs.Layout.{recordSize, logAt, turnAt};
+ghost use Rattle.record.specs.Parts.{withParts};
 ghost use Rattle.record.specs.Posts.{taken};
 ghost use Rattle.record.specs.Size.{mostPosts};
 ghost use Rattle.record.proofs.WholeFacts.{LogGood};
@@ -52,7 +53,7 @@ fn send_new(h: Head, s: &mut [u8], t: Token, b: Sent, f: Forwarded, out: &mut [u
     ensures { λ r. ⌜
         (r ≡ length (joined (written (visit (recordIn h (now (s .entry))) t))))
         × (logOn (b .log) (contentsIn (now (s .exit)) logAt) ≡ logNow (visit (recordIn h (now (s .entry))) t))
-        × (waitingIn (now (s .exit)) postsAt ≡ waitingIn (now (s .entry)) postsAt)
+        × (drop turnAt (now (s .exit)) ≡ drop turnAt (now (s .entry)))
         × (now (out .exit) ≡ sets (now (out .entry)) (b .size)
         (joined (newFrames (visit (recordIn h (now (s .entry))) t))
         ++ tokenBytes (token′ (visit (recordIn h (now (s .entry))) t)))) ⌝ }
@@ -84,12 +85,10 @@ fn finish(h: Head, s: &mut [u8], safe: MessageNumber, added: u8, deliveries: &mu
         × (mostDeliveries ≤ length (now deliveries)) ⌝ }
     ensures { λ r. ⌜
         (r ≡ length (handedOut (recordIn h (now (s .entry)) .log) (safe .0)))
-        × (now (s .exit) ≡ recordBytes (record {
-          own = h .own;
-          log = letGo (delivered (recordIn h (now (s .entry)) .log) (safe .0)) (safe .0);
-          turn = h .turn;
-          posts = taken (recordIn h (now (s .entry)) .posts) added;
-        }))
+        × (now (s .exit) ≡ recordBytes (withParts (recordIn h (now (s .entry)))
+        (letGo (delivered (recordIn h (now (s .entry)) .log) (safe .0)) (safe .0))
+        (h .turn)
+        (taken (recordIn h (now (s .entry)) .posts) added)))
         × (now (deliveries .exit) ≡ followedBy
         (handedOut (recordIn h (now (s .entry)) .log) (safe .0))
         (now (deliveries .entry))) ⌝ }
@@ -100,13 +99,7 @@ fn finish(h: Head, s: &mut [u8], safe: MessageNumber, added: u8, deliveries: &mu
     marked.delivered = mark;
     let log = record::let_go_in(marked, s, safe);
     let posts = record::take_oldest_in(h.posts, s, added);
-    let turn = h.turn;
-    let left = Head {
-        own: h.own,
-        log,
-        turn,
-        posts,
-    };
+    let left = record::with_parts(h, log, h.turn, posts);
     record::put_head(s, left);
     handed.size
 }
@@ -132,15 +125,7 @@ pub fn accept(h: Head, s: &mut [u8], t: Token, frames: &mut [u8], deliveries: &m
     let b = broadcasting::broadcast(h, s, t, frames);
     let f = forwarding::forward(h, s, t, b);
     let written = send_new(h, s, t, b, f, frames);
-    let log = b.log;
-    let turn = f.turn;
-    let posts = h.posts;
-    let left = Head {
-        own: h.own,
-        log,
-        turn,
-        posts,
-    };
+    let left = record::with_parts(h, b.log, f.turn, h.posts);
     let handed = finish(left, s, f.safe, b.added as u8, deliveries);
     Visited {
         frames: written as u16,

@@ -1,11 +1,10 @@
 -- A token that passes every question is accepted, and what an accepting call writes last passes 10 to 14.
-use Prim.Native.Nat.{ℕ, suc, _+_, _≤_}
+use Prim.Native.Nat.{ℕ, _≤_}
 use mathlib.Core.Path.{_≡_, refl, sym, _∙_, ap, subst}
-use mathlib.Core.Bool.{Bool, true, false, not, _||_, and-false, or-true, false≢true}
+use mathlib.Core.Bool.{true, false, and-false, false≢true}
 use mathlib.Core.List.{List, []}
 use mathlib.Core.Option.{Option, some}
 use borrow.Author.Tests.{le-leb, eq-eqb, lt-ltb}
-use lib.Dec.{leb}
 use lib.ListN.{length}
 use Rattle.frames.specs.Message.{contentOf}
 use Rattle.frames.specs.Number.{mostNumber}
@@ -14,12 +13,10 @@ use Rattle.frames.specs.Read.{readOf, aToken}
 use Rattle.frames.specs.declared.token.Token.{Token}
 use Rattle.frames.specs.declared.reader.Reading.{Reading}
 use Rattle.frames.proofs.Facts.{part}
-use Rattle.record.specs.Size.{mostHeld}
-use Rattle.record.specs.Held.{holds}
 use Rattle.record.specs.Ring.{current, ids, thisRing, tokenMembers, isToken, tokenPasses}
 use Rattle.record.specs.declared.log.Log.{Log}
 use Rattle.record.specs.declared.Record.{Record}
-use Rattle.record.proofs.CountLaws.{all-pass}
+use Rattle.record.proofs.HeldFacts.{held-within-most}
 use Rattle.station.specs.Reply.{Reply}
 use Rattle.visit.specs.Output.{mostFrames, mostDeliveries}
 use Rattle.station.specs.Arrive.{accepted}
@@ -77,13 +74,7 @@ passed ring members frame e = go (read-case frame)
 
 pub covers : (l : Log) (highest : ℕ) → l .level .0 ≤ highest → ((n : ℕ) (x : seen.Message) → storeOf l n ≡ some x → n ≤ highest) → coversHeld l highest ≡ true
 unfolding coversHeld
-covers l highest level held =
-    rw (le-leb (l .level .0) highest level)
-    (all-pass (λ n. leb n highest || not (holds l n)) (suc (l .safe .0)) mostHeld (λ i h. by-held (suc (l .safe .0) + i) (holds l (suc (l .safe .0) + i)) refl))
-  where
-    by-held : (n : ℕ) (b : Bool) → holds l n ≡ b → leb n highest || not b ≡ true
-    by-held n true e = rw (le-leb n highest (held n (messageHeld l n) (store-held l n e)))
-    by-held n false e = or-true (leb n highest)
+covers l highest level held = rw (le-leb (l .level .0) highest level) (held-within-most l highest (λ n e. held n (messageHeld l n) (store-held l n e)))
 
 -- ---- it is accepted
 

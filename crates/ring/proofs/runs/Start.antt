@@ -15,7 +15,8 @@ use Rattle.frames.proofs.Facts.{part}
 use Rattle.frames.proofs.Restored.{token-restored}
 use Rattle.frames.proofs.Rewritten.{message-not-token}
 use Rattle.record.specs.Size.{mostHeld}
-use Rattle.record.specs.Held.{placeOf, inUse, inWindow, holds, heldAt}
+use Rattle.record.specs.Held.{placeOf, inUse, inWindow, holds}
+use Rattle.record.proofs.HeldLaws.{heldAt}
 use Rattle.record.specs.Members.{isMember, membersCounted, idsFollow, ringInRange}
 use Rattle.record.specs.Ring.{current}
 use Rattle.record.specs.Fresh.{freshHeld, freshLog, freshTurn, fresh}

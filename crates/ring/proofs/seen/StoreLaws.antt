@@ -11,9 +11,9 @@ use lib.ListN.{length}
 use lib.Dec.{ltb, eqb}
 use Rattle.frames.specs.Layout.{mostContent}
 use Rattle.record.specs.Size.{mostHeld}
-use Rattle.record.specs.Held.{Entry, holds, heldAt, stored, letGo}
+use Rattle.record.specs.Held.{Entry, holds, stored, letGo}
+use Rattle.record.proofs.HeldLaws.{heldAt, HeldSizes, stored-at, let-go-at, given as entryGiven, holds-is}
 use Rattle.record.specs.declared.log.Log.{Log}
-use Rattle.record.proofs.HeldLaws.{HeldSizes, stored-at, let-go-at, given as entryGiven, holds-is}
 use Rattle.record.proofs.WholeFacts.{LogGood}
 use Rattle.visit.specs.Level.{reached, levelOf, raised}
 use Rattle.visit.specs.Deliver.{ringHeader, frameWith, entryOf, isAgreed, isDue, dueFrom, due, delivered}

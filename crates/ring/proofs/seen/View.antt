@@ -11,7 +11,8 @@ use Rattle.frames.specs.declared.token.Blocker.the-variants.{Nobody, Member}
 use Rattle.frames.specs.declared.token.Token.{Token}
 use Rattle.frames.specs.declared.reader.Answer.{Answer}
 use Rattle.frames.specs.declared.reader.Answer.the-variants.{Refused, IsMessage, IsToken}
-use Rattle.record.specs.Held.{Entry, heldAt}
+use Rattle.record.specs.Held.{Entry}
+use Rattle.record.proofs.HeldLaws.{heldAt}
 use Rattle.record.specs.Turn.{mayResend, remembered}
 use Rattle.record.specs.Ring.{current, ids}
 use Rattle.record.specs.declared.log.Log.{Log}

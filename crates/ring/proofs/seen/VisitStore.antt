@@ -7,11 +7,13 @@ use mathlib.Core.Option.{some}
 use borrow.Author.Tests.{eq-eqb, ne-eqb}
 use native.Mathlib.Decide.{decLt, ℕ-discrete}
 use native.Mathlib.Omega.{arith}
-use Rattle.record.specs.Held.{holds, heldAt}
+use Rattle.record.specs.Held.{holds}
+use Rattle.record.proofs.HeldLaws.{heldAt}
 use Rattle.record.specs.declared.log.Log.{Log}
 use Rattle.visit.specs.Level.{raised}
 use Rattle.visit.specs.Deliver.{ringHeader}
-use Rattle.visit.specs.Visit.{Visit, log, own, newCount, numbersAfter, newNumbers, highest′, logNow}
+use Rattle.visit.specs.Visit.{Visit, log, own, newCount, newNumbers, highest′, logNow}
+use Rattle.record.specs.Count.{numbersAfter}
 use Rattle.visit.specs.Acceptable.{Acceptable}
 use Rattle.visit.proofs.NewLaws.{new-rest, new-below, new-above}
 use Rattle.visit.proofs.VisitFacts.{newPosts, withNew, new-length, new-fit, now-new, now-ring}

@@ -13,7 +13,8 @@ use Rattle.frames.specs.declared.header.Header.{Header}
 use Rattle.frames.specs.declared.reader.Reading.{Reading}
 use Rattle.record.specs.declared.log.Log.{Log}
 use Rattle.visit.specs.Deliver.{ringHeader, frameOf}
-use Rattle.visit.specs.Visit.{Visit, log, repeats, numbersAfter, newCount, newNumbers, logNow, token′, written}
+use Rattle.visit.specs.Visit.{Visit, log, repeats, newCount, newNumbers, logNow, token′, written}
+use Rattle.record.specs.Count.{numbersAfter}
 use Rattle.visit.specs.Reads.{Each, HeldReads}
 use Rattle.visit.specs.Acceptable.{Acceptable}
 use Rattle.visit.proofs.EachLaws.{each-append}

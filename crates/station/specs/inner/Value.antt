@@ -8,7 +8,7 @@ use lib.Dec.{leb, eqb}
 use Rattle.record.specs.Size.{mostMembers}
 use Rattle.record.specs.Layout.{recordSize}
 use Rattle.record.specs.Bytes.{recordBytes, recordOf}
-use Rattle.record.specs.Head.{recordIn}
+use Rattle.record.specs.inner.Head.{recordIn}
 use Rattle.record.specs.Whole.{whole}
 use Rattle.record.specs.declared.head.Head.{Head}
 use Rattle.record.specs.declared.Record.{Record}

@@ -14,11 +14,8 @@ use Rattle.frames.specs.declared.number.MessageNumber.{MessageNumber}
 use Rattle.frames.specs.declared.token.Blocker.{Blocker}
 use Rattle.frames.specs.declared.token.Blocker.the-variants.{Nobody, Member}
 use Rattle.record.specs.Size.{heldContents}
-use Rattle.record.specs.Bytes.{recordBytes}
-use Rattle.record.specs.Head.{headWith, headOf, recordIn}
+use Rattle.record.specs.inner.Head.{headWith, headWithParts, headOf}
 use Rattle.record.specs.Held.{placeOf, entryAt}
-use Rattle.record.specs.Layout.{recordSize}
-use Rattle.record.specs.Whole.{whole}
 use Rattle.record.specs.declared.head.LogHead.{LogHead}
 use Rattle.record.specs.declared.head.Head.{Head}
 use Rattle.record.specs.declared.log.Held.{Held}
@@ -57,7 +54,7 @@ headDelivered l n = headWith l (l .level) (l .safe) (record { 0 = l .delivered .
 
 -- its delivery over: the log's new head, and the leave to resend has ended
 abbrev pub headHeard : Head → LogHead → Head
-headHeard h log = record { own = h .own; log = log; turn = resendEnded (h .turn); posts = h .posts }
+headHeard h log = headWithParts h log (resendEnded (h .turn)) (h .posts)
 
 -- ---- a list of numbers in a token's places, zero past them
 unfoldable pub listed : List ℕ → Requests

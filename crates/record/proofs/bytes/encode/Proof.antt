@@ -1,7 +1,7 @@
 use mathlib.Core.Path.{ap}
 use native.Mathlib.Omega.{arith}
 use borrow.Author.Needs.{needs}
-use Rattle.record.specs.Head.{recordOn}
+use Rattle.record.specs.inner.Head.{recordOn}
 use Rattle.record.specs.declared.head.Head.{Head}
 use Rattle.record.proofs.Arrays.{RecordArrays}
 use Rattle.record.proofs.PutLaws.{encoded}

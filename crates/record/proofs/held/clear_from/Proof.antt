@@ -2,7 +2,8 @@ use Prim.Native.Nat.{_+_, _-_, _≤_}
 use mathlib.Core.Path.{_≡_}
 use lib.ListN.{length}
 use borrow.Author.Needs.{needs}
-use Rattle.record.specs.Held.{heldFrom, cleared, clearedFrom}
+use Rattle.record.specs.Held.{cleared, clearedFrom}
+use Rattle.record.specs.inner.Head.{heldFrom}
 use Rattle.record.proofs.HeldSteps.{cleared-none, cleared-more, cleared-all}
 use Rattle.record.proofs.held.clear_from.Statement.{statement}
 use Rattle.record.proofs.held.clear_from.Tie as tie

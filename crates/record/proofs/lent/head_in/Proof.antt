@@ -1,6 +1,6 @@
 use mathlib.Core.Path.{sym, ap, _∙_}
 use borrow.Author.Needs.{needs}
-use Rattle.record.specs.Head.{recordHead}
+use Rattle.record.specs.inner.Head.{recordHead}
 use Rattle.record.proofs.LentLaws.{lent-of, lent-none}
 use Rattle.record.proofs.lent.head_in.Statement.{statement}
 use Rattle.record.proofs.lent.head_in.Tie as tie

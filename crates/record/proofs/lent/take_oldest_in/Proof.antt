@@ -1,5 +1,5 @@
 use borrow.Author.Needs.{needs}
-use Rattle.record.proofs.PartLaws.{waiting-put, contents-left}
+use Rattle.record.proofs.PartLaws.{waiting-put, before-left}
 use Rattle.record.proofs.lent.take_oldest_in.Statement.{statement}
 use Rattle.record.proofs.lent.take_oldest_in.Tie as tie
 
@@ -8,7 +8,7 @@ returns c =
     let start = c .before .before .before .before .before in
     let s = start .args .s .now in
     let left = c .before .before .take-oldest in
-    (rw (waiting-put s (left .last .1 .0) (start .pre .0) (left .kept .1 .0)) (left .ensures), contents-left s (left .last .1 .0) (start .pre .0) (left .kept .1 .0))
+    (rw (waiting-put s (left .last .1 .0) (start .pre .0) (left .kept .1 .0)) (left .ensures), before-left s (left .last .1 .0) (start .pre .0) (left .kept .1 .0))
 
 pub take-oldest-in-spec : {M : Type 1} → statement M
 take-oldest-in-spec =

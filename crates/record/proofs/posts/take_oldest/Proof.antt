@@ -1,6 +1,6 @@
 use native.Mathlib.Omega.{arith}
 use borrow.Author.Needs.{needs}
-use Rattle.record.specs.Head.{postsOn}
+use Rattle.record.specs.inner.Head.{postsOn}
 use Rattle.record.proofs.Arrays.{PostsArrays}
 use Rattle.record.proofs.TakeLaws.{none-taken, contents-taken, posts-taken}
 use Rattle.record.proofs.posts.take_oldest.Statement.{statement}

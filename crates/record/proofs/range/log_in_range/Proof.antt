@@ -3,7 +3,7 @@ use lib.ListN.{length}
 use borrow.Author.Needs.{needs}
 use borrow.Author.Tests.{leb-true, not-true, not-false}
 use Rattle.record.specs.Size.{mostMembers}
-use Rattle.record.specs.Head.{logOn}
+use Rattle.record.specs.inner.Head.{logOn}
 use Rattle.record.proofs.RangeLaws.{safe-refused, log-tested}
 use Rattle.record.proofs.range.log_in_range.Statement.{statement}
 use Rattle.record.proofs.range.log_in_range.Tie as tie

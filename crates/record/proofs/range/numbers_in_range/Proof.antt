@@ -9,9 +9,9 @@ use borrow.Author.Tests.{not-true, not-false}
 use Rattle.frames.specs.Number.{mostNumber}
 use Rattle.record.specs.Size.{mostHeld}
 use Rattle.record.specs.Held.{placeOf}
-use Rattle.record.specs.Whole.{numbersInRange}
+use Rattle.record.specs.inner.Head.{logOn}
 use Rattle.record.proofs.CountLaws.{Counting, count-starts, count-stops, count-goes, count-ends}
-use Rattle.record.proofs.RangeLaws.{numbers-below}
+use Rattle.record.proofs.RangeLaws.{numbers-tested, numbers-below}
 use Rattle.record.proofs.range.numbers_in_range.Statement.{statement}
 use Rattle.record.proofs.range.numbers_in_range.Tie as tie
 
@@ -28,11 +28,11 @@ returns : tie.Need-returns Inv-loop μ-loop
 returns c = numbers-below _ (omega (arith, c .if1 .taken))
 
 returns-2 : tie.Need-returns-2 Inv-loop μ-loop
-unfolding numbersInRange
 returns-2 c =
-    count-stops _ _ _ _
+    let start = c .before .before .before .before .before .args in
+    numbers-tested (logOn (start .l) (start .contents .now)) _ (count-stops _ _ _ _
     (c .before .before .loop .inv) (c .before .loop-test .taken)
-    (rw (Bool·not-not, ← add-one (c .before .before .before .before .before .args .l .safe .0)) (not-true _ (c .if2 .taken)))
+    (rw (Bool·not-not, ← add-one (start .l .safe .0)) (not-true _ (c .if2 .taken))))
 
 loop-again : tie.Need-loop-again Inv-loop μ-loop
 loop-again c =
@@ -41,8 +41,9 @@ loop-again c =
     (rw (Bool·not-not, ← add-one (c .before .before .before .before .before .args .l .safe .0)) (not-false _ (c .if2 .left)))
 
 returns-3 : tie.Need-returns-3 Inv-loop μ-loop
-unfolding numbersInRange
-returns-3 c = count-ends _ _ _ _ (c .before .loop .inv) (c .loop-test .left)
+returns-3 c =
+    let start = c .before .before .before .before .args in
+    numbers-tested (logOn (start .l) (start .contents .now)) _ (count-ends _ _ _ _ (c .before .loop .inv) (c .loop-test .left))
 
 pub numbers-in-range-spec : {M : Type 1} → statement M
 numbers-in-range-spec =

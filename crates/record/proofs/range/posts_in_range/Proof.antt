@@ -2,7 +2,7 @@ use mathlib.Core.Path.{_≡_}
 use lib.ListN.{length}
 use borrow.Author.Needs.{needs}
 use Rattle.record.specs.Size.{mostPosts}
-use Rattle.record.specs.Head.{postsOn}
+use Rattle.record.specs.inner.Head.{postsOn}
 use Rattle.record.proofs.RangeLaws.{posts-tested}
 use Rattle.record.proofs.range.posts_in_range.Statement.{statement}
 use Rattle.record.proofs.range.posts_in_range.Tie as tie

@@ -1,30 +1,33 @@
+use Prim.Native.Nat.{_<_}
+use native.Mathlib.Omega.{arith}
 use borrow.Author.Needs.{needs}
-use Rattle.record.proofs.WholeLaws.{range-refused, ranged, whole-tested}
+use Rattle.record.specs.inner.Head.{recordOn}
+use Rattle.record.specs.declared.Record.{Record}
+use Rattle.record.proofs.WholeLaws.{whole-refused, members-few, whole-tested}
 use Rattle.record.proofs.whole.is_whole_on.Statement.{statement}
 use Rattle.record.proofs.whole.is_whole_on.Tie as tie
 
+abbrev the-record : tie.Start → Record
+the-record c = recordOn (c .args .h) (c .args .contents .now) (c .args .waiting .now)
+
 returns : tie.Need-returns
-returns c = range-refused _ _ (c .before .in-range .ensures) (c .if1 .taken)
+returns c = whole-refused (the-record (c .before .before .before .before)) _ (c .before .log-whole .ensures) (c .if1 .taken)
 
-members-agree-requires : tie.Need-members-agree-requires
-members-agree-requires c κs =
-    let f = ranged _ _ (c .before .in-range .ensures) (c .if1 .left) in
-    (f .log .count, f .turn .size)
-
-marks-agree-requires : tie.Need-marks-agree-requires
-marks-agree-requires c κs =
-    let f = ranged _ _ (c .before .before .in-range .ensures) (c .before .if1 .left) in
-    (f .log .safe, f .log .level)
+turn-whole-requires : tie.Need-turn-whole-requires
+turn-whole-requires c κs = members-few (the-record (c .before .before .before .before)) _ (c .before .log-whole .ensures) (c .if1 .left)
 
 returns-2 : tie.Need-returns-2
 returns-2 c =
-    whole-tested _ _
-    (c .before .before .before .before .in-range .ensures)
-    (c .before .before .before .if1 .left) _ _ _
-    (c .before .before .members-agree .ensures) (c .before .marks-agree .ensures) (c .unused-zero .ensures)
+    let start = c .before .before .before .before .before .before in
+    let own : start .args .h .own < 65536 = (let g = start .good .0 .1 .0 in search needs) in
+    whole-tested (the-record start) _
+    (c .before .before .before .log-whole .ensures)
+    (c .before .before .if1 .left)
+    (omega (arith, own)) _ _
+    (c .before .turn-whole .ensures) (c .posts-whole .ensures)
 
 pub is-whole-on-spec : {M : Type 1} → statement M
 is-whole-on-spec =
     tie.close
-    (tie.spec (λ c κs. search needs) returns members-agree-requires marks-agree-requires (λ c κs. search needs)
+    (tie.spec (λ c κs. search needs) returns turn-whole-requires (λ c κs. search needs)
     returns-2)

@@ -1,5 +1,5 @@
 use mathlib.Core.Path.{_≡_, refl, sym, ap, _∙_}
-use Rattle.record.specs.Head.{recordIn}
+use Rattle.record.specs.inner.Head.{recordIn}
 use Rattle.station.proofs.DoesLaws.{refuses, known, no-frames}
 use Rattle.station.proofs.ArriveLaws.{arrived-unread, message-there, arrived-message, token-there, arrived-token, writes-none}
 use borrow.Author.Needs.{needs}

@@ -3,7 +3,7 @@ use mathlib.Core.Bool.{true}
 use native.Mathlib.Omega.{arith}
 use borrow.Author.Needs.{needs}
 use borrow.Author.Tests.{not-true, not-false}
-use Rattle.record.specs.Head.{recordIn}
+use Rattle.record.specs.inner.Head.{recordIn}
 use Rattle.record.specs.Ring.{ids, thisRing}
 use Rattle.record.specs.declared.Record.{Record}
 use Rattle.station.proofs.ArriveLaws.{heard-does, count-fits, ring-asked, sender-asked, message-other-ring, message-not-member, message-passes}

@@ -3,7 +3,7 @@ use mathlib.Core.Bool.{true}
 use native.Mathlib.Omega.{arith}
 use borrow.Author.Needs.{needs}
 use borrow.Author.Tests.{not-true, not-false}
-use Rattle.record.specs.Head.{recordIn, contentsIn}
+use Rattle.record.specs.inner.Head.{recordIn, contentsIn}
 use Rattle.record.specs.Layout.{logAt}
 use Rattle.record.specs.Ring.{ids, thisRing, tokenMembers}
 use Rattle.record.specs.declared.Record.{Record}

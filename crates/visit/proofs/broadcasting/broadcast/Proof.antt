@@ -1,6 +1,6 @@
 use native.Mathlib.Omega.{arith}
 use borrow.Author.Needs.{needs}
-use Rattle.record.specs.Head.{recordIn, contentsIn}
+use Rattle.record.specs.inner.Head.{recordIn, contentsIn}
 use Rattle.record.specs.Layout.{logAt}
 use Rattle.visit.specs.Visit.{Visit}
 use Rattle.visit.specs.Acceptable.{visit}

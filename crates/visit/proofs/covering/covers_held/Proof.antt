@@ -2,7 +2,7 @@ use Prim.Native.Nat.{_-_}
 use native.Mathlib.Nat.{zero-add}
 use borrow.Author.Needs.{needs}
 use Rattle.record.specs.Size.{mostHeld}
-use Rattle.record.specs.Head.{logOn}
+use Rattle.record.specs.inner.Head.{logOn}
 use Rattle.record.proofs.CountLaws.{Gathered, gathered-starts, gathered-goes, gathered-ends}
 use Rattle.visit.proofs.CoversLaws.{placeCovered, covers-below, covers-by-place}
 use Rattle.visit.proofs.covering.covers_held.Statement.{statement}

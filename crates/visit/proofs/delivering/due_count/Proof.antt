@@ -3,7 +3,7 @@ use mathlib.Core.Path.{sym, _∙_}
 use mathlib.Core.List.{List, []}
 use borrow.Author.Tests.{not-true, not-false}
 use borrow.Author.Needs.{needs}
-use Rattle.record.specs.Head.{logOn}
+use Rattle.record.specs.inner.Head.{logOn}
 use Rattle.visit.proofs.DueCount.{Counted, count-starts, count-stops, count-goes, count-ends}
 use Rattle.visit.proofs.delivering.due_count.Statement.{statement}
 use Rattle.visit.proofs.delivering.due_count.Tie as tie

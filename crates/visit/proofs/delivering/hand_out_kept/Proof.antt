@@ -1,6 +1,6 @@
 use native.Mathlib.Omega.{arith}
 use borrow.Author.Needs.{needs}
-use Rattle.record.specs.Head.{logOn}
+use Rattle.record.specs.inner.Head.{logOn}
 use Rattle.record.specs.declared.log.Log.{Log}
 use Rattle.visit.proofs.DueCount.{due-fits, run-handed}
 use Rattle.visit.proofs.delivering.hand_out_kept.Statement.{statement}

@@ -3,7 +3,7 @@ use native.Mathlib.Omega.{arith}
 use lib.ListN.{length}
 use lib.Seq.{length-sets}
 use borrow.Author.Needs.{needs}
-use Rattle.record.specs.Head.{logOn}
+use Rattle.record.specs.inner.Head.{logOn}
 use Rattle.record.specs.declared.log.Log.{Log}
 use Rattle.visit.proofs.KeptLaws.{kept-short, kept-put}
 use Rattle.visit.proofs.PutFrames.{none-put}

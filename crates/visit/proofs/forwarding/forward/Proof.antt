@@ -2,7 +2,7 @@ use Prim.Native.Nat.{_+_}
 use mathlib.Core.Path.{_≡_, refl, ap}
 use native.Mathlib.Omega.{arith}
 use borrow.Author.Needs.{needs}
-use Rattle.record.specs.Head.{recordIn}
+use Rattle.record.specs.inner.Head.{recordIn}
 use Rattle.visit.specs.Visit.{Visit}
 use Rattle.visit.specs.Acceptable.{visit}
 use Rattle.visit.specs.inner.Steps.{reachOf, reachAfter}

@@ -1,6 +1,6 @@
 use native.Mathlib.Omega.{arith}
 use borrow.Author.Needs.{needs}
-use Rattle.record.specs.Head.{recordIn}
+use Rattle.record.specs.inner.Head.{recordIn}
 use Rattle.visit.specs.Visit.{Visit}
 use Rattle.visit.specs.Acceptable.{visit}
 use Rattle.visit.proofs.Forward.{sent-fits, token-ready, size-fits, turn-made}

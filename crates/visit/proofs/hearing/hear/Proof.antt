@@ -1,9 +1,10 @@
 use mathlib.Core.Path.{refl, sym, ap, _∙_}
 use native.Mathlib.Omega.{arith}
 use borrow.Author.Needs.{needs}
-use Rattle.record.specs.Head.{logOn, postsOn, recordIn, contentsIn}
+use Rattle.record.specs.inner.Head.{logOn, postsOn, recordIn, contentsIn}
 use Rattle.record.specs.Layout.{logAt}
 use Rattle.record.specs.declared.Record.{Record}
+use Rattle.record.proofs.PartLaws.{waiting-stays}
 use Rattle.visit.specs.declared.hearing.Hearing.the-variants.{WasHad, IsAhead, IsKept}
 use Rattle.visit.proofs.HearLaws.{marks-most, content-short, own-writable, kept-writable, handed-short, handed-most, leaves-heard, is-heard-had, is-heard-ahead, is-heard-kept}
 use Rattle.visit.proofs.FrameLaws.{Writable}
@@ -93,7 +94,7 @@ returns-3 c =
     let s = c .before .before .before .before .before .before .before .before .before .before .before .before .keep .last .1 .0 in
     leaves-heard (start .args .h) s _ (c .before .before .before .before .before .before .before .before .contents-in3 .ensures) (c .before .before .before .before .before .before .before .before .before .before .before .before .keep .result) _ _ _ _ _ (c .before .before .before .before .before .before .hand-out-kept .ensures) (c .before .before .put-heard3 .ensures) _ IsKept
     (is-heard-kept (the-record start) (start .args .m) (start .args .content .now) _ (c .before .before .before .before .before .before .before .before .before .before .before .before .before .before .before .before .before .is-had .ensures _) (c .before .before .before .before .before .before .before .before .before .before .before .before .before .before .before .before .if1 .left) _ (c .before .before .before .before .before .before .before .before .before .before .before .before .before .before .before .is-ahead .ensures (contentsIn (start .args .s .now) logAt)) (c .before .before .before .before .before .before .before .before .before .before .before .before .before .before .if2 .left)
-    (recordIn (start .args .h) s) _ (refl, refl, ap (postsOn (start .args .h .posts)) (c .before .before .before .before .before .before .before .before .before .before .before .before .keep .ensures .1)) (c .before .before .before .before .before .before .before .before .before .before .before .before .keep .ensures .0))
+    (recordIn (start .args .h) s) _ (refl, refl, ap (postsOn (start .args .h .posts)) (waiting-stays (start .args .s .now) s (c .before .before .before .before .before .before .before .before .before .before .before .before .keep .ensures .1))) (c .before .before .before .before .before .before .before .before .before .before .before .before .keep .ensures .0))
 
 pub hear-spec : {M : Type 1} → statement M
 hear-spec =

@@ -1,6 +1,6 @@
 use mathlib.Core.Path.{ap, _∙_}
 use borrow.Author.Needs.{needs}
-use Rattle.record.specs.Head.{logOn, contentsIn}
+use Rattle.record.specs.inner.Head.{logOn, contentsIn}
 use Rattle.record.specs.Layout.{logAt}
 use Rattle.record.specs.declared.head.LogHead.{LogHead}
 use Rattle.record.specs.declared.log.Log.{Log}

@@ -1,8 +1,7 @@
 use Prim.Native.Nat.{_≤_, _-_}
 use lib.ListN.{length, drop, drop-of-length-le}
 use borrow.Author.Needs.{needs}
-use Rattle.record.specs.Head.{logOn}
-use Rattle.record.specs.Held.{heldFrom}
+use Rattle.record.specs.inner.Head.{logOn, heldFrom}
 use Rattle.record.specs.declared.log.Log.{Log}
 use Rattle.visit.proofs.FrameLaws.{Writable}
 use Rattle.visit.proofs.PutFrames.{all-frameable, put-log, Putting, putting-starts, putting-next, putting-goes, putting-ends, from-next}

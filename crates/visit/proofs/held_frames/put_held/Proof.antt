@@ -1,7 +1,7 @@
 use native.Mathlib.Omega.{arith}
 use borrow.Author.Needs.{needs}
 use Rattle.record.specs.declared.log.Held.{Held}
-use Rattle.record.specs.Held.{heldFrom}
+use Rattle.record.specs.inner.Head.{heldFrom}
 use Rattle.visit.proofs.PutFrames.{held-content, held-short}
 use Rattle.visit.proofs.held_frames.put_held.Statement.{statement}
 use Rattle.visit.proofs.held_frames.put_held.Tie as tie

@@ -1,9 +1,8 @@
 use Prim.Native.Nat.{_≤_, _-_}
 use borrow.Author.Needs.{needs}
-use Rattle.record.specs.Head.{logOn}
-use Rattle.record.specs.Held.{heldFrom}
+use Rattle.record.specs.inner.Head.{logOn, heldFrom}
 use Rattle.record.specs.declared.log.Log.{Log}
-use Rattle.visit.specs.Visit.{numbersAfter}
+use Rattle.record.specs.Count.{numbersAfter}
 use Rattle.visit.proofs.FrameLaws.{Writable}
 use Rattle.visit.proofs.PutFrames.{run-frameable, put-log, Putting, putting-next, putting-goes, putting-ends, runFrom, run-starts, run-next, run-ends, none-put}
 use Rattle.visit.proofs.held_frames.put_run.Statement.{statement}

@@ -1,6 +1,6 @@
 use mathlib.Core.Path.{ap, _∙_}
 use borrow.Author.Needs.{needs}
-use Rattle.record.specs.Head.{logOn}
+use Rattle.record.specs.inner.Head.{logOn}
 use Rattle.record.specs.declared.head.LogHead.{LogHead}
 use Rattle.visit.proofs.HearLaws.{raised-as}
 use Rattle.visit.proofs.level.raise.Statement.{statement}

@@ -2,7 +2,7 @@ use Prim.Native.Nat.{_-_}
 use mathlib.Core.Path.{_∙_}
 use native.Mathlib.Omega.{arith}
 use borrow.Author.Needs.{needs}
-use Rattle.record.specs.Head.{recordIn, contentsIn, headWith}
+use Rattle.record.specs.inner.Head.{recordIn, contentsIn, headWith}
 use Rattle.record.specs.Layout.{logAt}
 use Rattle.record.specs.declared.posts.Posts.{Posts}
 use Rattle.record.proofs.RangeFacts.{PostsRange, posts-range}

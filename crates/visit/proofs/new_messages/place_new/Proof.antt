@@ -2,12 +2,13 @@ use Prim.Native.Nat.{ℕ, _-_}
 use mathlib.Core.Path.{_≡_, refl, _∙_}
 use mathlib.Core.List.{List}
 use native.Mathlib.Omega.{arith}
-use lib.ListN.{length}
+use lib.ListN.{length, drop}
 use borrow.Author.Needs.{needs}
-use Rattle.record.specs.Head.{postsOn, contentsIn, waitingIn}
-use Rattle.record.specs.Layout.{recordSize, logAt, postsAt}
+use Rattle.record.specs.inner.Head.{postsOn, contentsIn, waitingIn}
+use Rattle.record.specs.Layout.{recordSize, logAt, turnAt, postsAt}
 use Rattle.record.specs.declared.head.LogHead.{LogHead}
 use Rattle.record.specs.declared.posts.Posts.{Posts}
+use Rattle.record.proofs.PartLaws.{waiting-stays}
 use Rattle.record.proofs.RangeFacts.{PostsRange, posts-range}
 use Rattle.visit.proofs.HoldNew.{postsIn, Placing, placing-starts, placing-goes, placing-ends}
 use Rattle.visit.proofs.new_messages.place_new.Statement.{statement}
@@ -16,7 +17,7 @@ use Rattle.visit.proofs.new_messages.place_new.Tie as tie
 abbrev Inv-loop : tie.InvT-loop
 Inv-loop s₀ highest n lengths i₀ s i =
     (length s ≡ recordSize)
-    × (waitingIn s postsAt ≡ waitingIn s₀ postsAt)
+    × (drop turnAt s ≡ drop turnAt s₀)
     × ((l : LogHead) (own : ℕ) (services : List ℕ) → Placing l own (highest .0) (postsIn n services lengths (waitingIn s₀ postsAt)) n (contentsIn s₀ logAt) (contentsIn s logAt) i)
 
 abbrev μ-loop : tie.MeasureT-loop
@@ -45,7 +46,7 @@ loop-again c =
     let holds = c .before .before .hold-content-in .ensures in (
       c .before .before .hold-content-in .kept .0 ∙ before .inv .0,
       holds .1 ∙ before .inv .1,
-      λ l own services. placing-goes _ _ _ _ _ _ _ _ (before .inv .2 l own services) _ (c .before .before .before .before .before .loop-test .taken) (rw (before .inv .1) at (holds .0)),
+      λ l own services. placing-goes _ _ _ _ _ _ _ _ (before .inv .2 l own services) _ (c .before .before .before .before .before .loop-test .taken) (rw (waiting-stays (c .before .before .before .before .before .before .before .before .before .args .s .now) (before .s) (before .inv .1)) at (holds .0)),
     )
 
 same-length : tie.Need-same-length Inv-loop μ-loop

@@ -8,7 +8,7 @@ use lib.ListN.{length, take}
 use borrow.Author.Needs.{needs}
 use Rattle.words.specs.Scan.{lacks}
 use Rattle.frames.specs.Layout.{mostRequests}
-use Rattle.record.specs.Head.{logOn}
+use Rattle.record.specs.inner.Head.{logOn}
 use Rattle.record.specs.Held.{holds}
 use Rattle.visit.proofs.ListedLaws.{Adding, adding-starts, adding-adds, adding-skips, adding-full, adding-ends, wanted}
 use Rattle.visit.proofs.requests.add_missing.Statement.{statement}

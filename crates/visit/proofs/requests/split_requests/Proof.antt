@@ -6,7 +6,7 @@ use mathlib.Core.Logic.{⊎-elim}
 use mathlib.Core.Bool.{not}
 use borrow.Author.Needs.{needs}
 use Rattle.frames.specs.Layout.{mostRequests}
-use Rattle.record.specs.Head.{logOn}
+use Rattle.record.specs.inner.Head.{logOn}
 use Rattle.record.specs.Held.{holds}
 use Rattle.visit.specs.inner.Steps.{listed}
 use Rattle.visit.proofs.ListedLaws.{Gathered, gathered-none, gathered-few, gathered-takes, gathered-leaves, gathered-all}

@@ -4,7 +4,7 @@ use native.Mathlib.Omega.{arith}
 use lib.ListN.{length, drop, length-take, length-drop}
 use borrow.Author.Needs.{needs}
 use Rattle.frames.specs.Layout.{longestToken}
-use Rattle.record.specs.Head.{logOn, recordIn, contentsIn}
+use Rattle.record.specs.inner.Head.{logOn, recordIn, contentsIn}
 use Rattle.record.specs.Layout.{logAt}
 use Rattle.record.specs.Turn.{remembered}
 use Rattle.visit.specs.Visit.{Visit, logNow}

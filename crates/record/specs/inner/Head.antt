@@ -10,11 +10,16 @@ use Rattle.record.specs.declared.head.PostsHead.{PostsHead}
 use Rattle.record.specs.declared.head.Head.{Head}
 use Rattle.record.specs.declared.log.Held.{Held}
 use Rattle.record.specs.declared.log.Log.{Log}
+use Rattle.record.specs.declared.turn.Turn.{Turn}
 use Rattle.record.specs.declared.posts.Posts.{Posts}
 use Rattle.record.specs.declared.Record.{Record}
 
+-- the messages that these arrays hold
+abbrev pub heldFrom : List ℕ → List ℕ → List ℕ → List ℕ → Held
+heldFrom senders services lengths contents = record { senders = senders; services = services; lengths = lengths; contents = contents }
+
 abbrev pub heldOn : LogHead → List ℕ → Held
-heldOn l contents = record { senders = l .senders; services = l .services; lengths = l .lengths; contents = contents }
+heldOn l contents = heldFrom (l .senders) (l .services) (l .lengths) contents
 
 abbrev pub logOn : LogHead → List ℕ → Log
 logOn l contents =
@@ -34,6 +39,10 @@ postsOn p contents = record { count = p .count; services = p .services; lengths 
 -- the contents of the held messages, and of the waiting posts
 abbrev pub recordOn : Head → List ℕ → List ℕ → Record
 recordOn h contents waiting = record { own = h .own; log = logOn (h .log) contents; turn = h .turn; posts = postsOn (h .posts) waiting }
+
+-- a head with other parts, as `withParts` of a record
+abbrev pub headWithParts : Head → LogHead → Turn → PostsHead → Head
+headWithParts h log turn posts = record { own = h .own; log = log; turn = turn; posts = posts }
 
 -- the head of a log with other marks and other messages
 abbrev pub headWith : LogHead → MessageNumber → MessageNumber → MessageNumber → List ℕ → List ℕ → List ℕ → LogHead
@@ -86,7 +95,3 @@ recordHead r =
       turn = r .turn;
       posts = record { count = r .posts .count; services = r .posts .services; lengths = r .posts .lengths };
     }
-
--- the record with other posts
-abbrev pub withPosts : Record → Posts → Record
-withPosts r posts = record { own = r .own; log = r .log; turn = r .turn; posts = posts }
