@@ -1,4 +1,4 @@
-"""The logger's lines (README, 'The logger'): of values, and of a datagram as the model reads it."""
+"""The logger's lines (docs/LOGGER.md): of values, and of a datagram as the model reads it."""
 from model import Message, Refused, read
 
 

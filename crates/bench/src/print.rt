@@ -1,7 +1,8 @@
 // The lines that the bench prints.
+ghost use mathlib.Core.Path.{_≡_};
 ghost use mathlib.Core.List.{_++_};
-ghost use Rattle.text.specs.Text.{Put, decimal};
-ghost use Rattle.bench.specs.Print.{field, deliveryHead, deliveryLine, numberLine, refusalLine};
+ghost use Rattle.text.specs.Text.{filled, put, piece, decimal};
+ghost use Rattle.bench.specs.Print.{spaced, deliveryHead, deliveryLine, numberLine, refusalLine};
 use crate::output;
 use crate::output::Output;
 use frames::Answer;
@@ -9,30 +10,30 @@ use frames::Message;
 
 // A number, and what ends it.
 fn put_ended(out: &mut [u8], at: usize, n: u32, end: &[u8]) -> usize
-    ensures { λ r. ⌜ Put (now (out .entry)) at (decimal n ++ now (end .entry)) r (now (out .exit)) ⌝ }
+    ensures { λ r. ⌜ filled r (now (out .exit)) ≡ put (decimal n ++ piece (now (end .entry))) (filled at (now (out .entry))) ⌝ }
 {
     let at = text::put_decimal(out, at, n);
     text::put_bytes(out, at, end)
 }
 
-fn put_field(out: &mut [u8], at: usize, n: u32) -> usize
-    ensures { λ r. ⌜ Put (now (out .entry)) at (field n) r (now (out .exit)) ⌝ }
+fn put_spaced(out: &mut [u8], at: usize, n: u32) -> usize
+    ensures { λ r. ⌜ filled r (now (out .exit)) ≡ put (spaced n) (filled at (now (out .entry))) ⌝ }
 {
     put_ended(out, at, n, b" ")
 }
 
 // Place, message number, sender, service; a space after each.
 fn put_head(out: &mut [u8], at: usize, place: u32, m: Message) -> usize
-    ensures { λ r. ⌜ Put (now (out .entry)) at (deliveryHead place m) r (now (out .exit)) ⌝ }
+    ensures { λ r. ⌜ filled r (now (out .exit)) ≡ put (deliveryHead place m) (filled at (now (out .entry))) ⌝ }
 {
-    let at = put_field(out, at, place);
-    let at = put_field(out, at, m.number.0);
-    let at = put_field(out, at, m.sender as u32);
-    put_field(out, at, m.service as u32)
+    let at = put_spaced(out, at, place);
+    let at = put_spaced(out, at, m.number.0);
+    let at = put_spaced(out, at, m.sender as u32);
+    put_spaced(out, at, m.service as u32)
 }
 
 fn put_delivery(out: &mut [u8], at: usize, place: u32, m: Message, content: &[u8]) -> usize
-    ensures { λ r. ⌜ Put (now (out .entry)) at (deliveryLine place m (now (content .entry))) r (now (out .exit)) ⌝ }
+    ensures { λ r. ⌜ filled r (now (out .exit)) ≡ put (deliveryLine place m (now (content .entry))) (filled at (now (out .entry))) ⌝ }
 {
     let at = put_head(out, at, place, m);
     let at = text::put_bytes(out, at, content);
@@ -40,13 +41,13 @@ fn put_delivery(out: &mut [u8], at: usize, place: u32, m: Message, content: &[u8
 }
 
 fn put_number(out: &mut [u8], at: usize, n: u32) -> usize
-    ensures { λ r. ⌜ Put (now (out .entry)) at (numberLine n) r (now (out .exit)) ⌝ }
+    ensures { λ r. ⌜ filled r (now (out .exit)) ≡ put (numberLine n) (filled at (now (out .entry))) ⌝ }
 {
     put_ended(out, at, n, b"\n")
 }
 
 fn put_refusal(out: &mut [u8], at: usize, number: u16) -> usize
-    ensures { λ r. ⌜ Put (now (out .entry)) at (refusalLine number) r (now (out .exit)) ⌝ }
+    ensures { λ r. ⌜ filled r (now (out .exit)) ≡ put (refusalLine number) (filled at (now (out .entry))) ⌝ }
 {
     let at = text::put_bytes(out, at, b"no ");
     put_number(out, at, number as u32)

@@ -2,8 +2,8 @@
 use Prim.Native.Nat.{ℕ, zero, suc, _+_, _*_, _/_, _%_, _≤_}
 use mathlib.Core.Path.{_≡_, refl}
 use mathlib.Core.Bool.{Bool, true, false, cond, and-false}
-use mathlib.Core.List.{List, [], _∷_, _++_}
-use native.Mathlib.Nat.{mul-suc}
+use mathlib.Core.List.{List, [], _∷_, _++_, flatten}
+use native.Mathlib.Nat.{add-zero, zero-add, add-assoc, mul-suc}
 use native.Mathlib.Omega.{arith}
 use lib.Dec.{ltb, eqb}
 use lib.ListN.{length, take, length-append, length-take}
@@ -20,10 +20,27 @@ use Rattle.frames.specs.declared.token.Token.{Token}
 use Rattle.frames.specs.declared.token.Blocker.{Blocker}
 use Rattle.frames.specs.declared.token.Blocker.the-variants.{Nobody, Member}
 use Rattle.frames.specs.declared.reader.Reading.{Reading}
-use Rattle.text.specs.Text.{digitsTo, isPlain, escapedByte, each}
-use Rattle.dump.specs.Line.{longestLine, headerText, messageFields, messageLine, blockerText, following, listed, requestsText, tokenFields, tokenLine, refusalLine, answerLine, lineOf}
+use Rattle.text.specs.Text.{Text, digitsTo, decimal, isPlain, escapedByte, each}
+use Rattle.dump.specs.Line.{longestLine, headerText, messageFields, messageLine, blockerText, following, commaSeparated, requestsText, tokenFields, tokenLine, unreadLine, answerLine, lineText, lineOf}
 
--- ---- pieces
+-- ---- texts
+
+-- how many bytes a text has
+unfoldable size : Text → ℕ
+size text = length (flatten text)
+
+size-append : (a b : Text) → size (a ++ b) ≡ size a + size b
+unfolding size flatten
+size-append [] b = rw zero-add
+size-append (bytes ∷ a) b = rw (length-append, length-append, size-append a b, add-assoc)
+
+size-none : size [] ≡ 0
+unfolding size flatten
+size-none = refl
+
+size-piece : (bytes : List ℕ) → size (bytes ∷ []) ≡ length bytes
+unfolding size flatten
+size-piece bytes = rw (length-append, add-zero)
 
 one-more : (b : Bool) (most x y : ℕ) (xs : List ℕ) → length xs ≤ most → length (cond b (x ∷ []) (xs ++ (y ∷ []))) ≤ suc most
 one-more true most x y xs h = omega arith
@@ -38,49 +55,52 @@ either : (b : Bool) (x y₁ y₂ y₃ y₄ : ℕ) → length (cond b (x ∷ []) 
 either true x y₁ y₂ y₃ y₄ = omega arith
 either false x y₁ y₂ y₃ y₄ = omega arith
 
-length-escaped-byte : (b : ℕ) → length (escapedByte b) ≤ 4
-length-escaped-byte b = either (isPlain b) _ _ _ _ _
+size-escaped-byte : (b : ℕ) → size (escapedByte b) ≤ 4
+size-escaped-byte b = rw size-piece (either (isPlain b) _ _ _ _ _)
 
-length-following : (n : ℕ) → length (following n) ≤ 11
-length-following n = simp length-append (omega (arith, length-digits 10 n))
+size-decimal : (n : ℕ) → size (decimal n) ≤ 10
+size-decimal n = rw size-piece (length-digits 10 n)
 
-length-each : (f : ℕ → List ℕ) (most : ℕ) → ((x : ℕ) → length (f x) ≤ most) → (xs : List ℕ) → length (each f xs) ≤ most * length xs
+size-following : (n : ℕ) → size (following n) ≤ 11
+size-following n = rw (size-append, size-piece) (omega (arith, size-decimal n))
+
+size-each : (f : ℕ → Text) (most : ℕ) → ((x : ℕ) → size (f x) ≤ most) → (xs : List ℕ) → size (each f xs) ≤ most * length xs
 unfolding each
-length-each f most h [] = omega arith
-length-each f most h (x ∷ xs) = rw (length-append, mul-suc) (omega (arith, h x, length-each f most h xs))
+size-each f most h [] = rw size-none (omega arith)
+size-each f most h (x ∷ xs) = rw (size-append, mul-suc) (omega (arith, h x, size-each f most h xs))
 
-length-listed : (xs : List ℕ) → length (listed xs) ≤ 11 * length xs
-length-listed [] = omega arith
-length-listed (x ∷ xs) = simp length-append (omega (arith, length-digits 10 x, length-each following 11 length-following xs))
+size-listed : (xs : List ℕ) → size (commaSeparated xs) ≤ 11 * length xs
+size-listed [] = rw size-none (omega arith)
+size-listed (x ∷ xs) = rw size-append (omega (arith, size-decimal x, size-each following 11 size-following xs))
 
-length-blocker : (b : Blocker) → length (blockerText b) ≤ 18
-length-blocker Nobody = omega arith
-length-blocker (Member id) = simp length-append (omega (arith, length-digits 10 id))
+size-blocker : (b : Blocker) → size (blockerText b) ≤ 18
+size-blocker Nobody = rw size-piece (omega arith)
+size-blocker (Member id) = rw (size-append, size-piece) (omega (arith, size-decimal id))
 
 -- ---- lines
 
-length-message : (m : Message) (content : List ℕ) → length content ≤ mostContent → length (messageLine m content) ≤ longestLine
+size-message : (m : Message) (content : List ℕ) → length content ≤ mostContent → size (messageLine m content) ≤ longestLine
 unfolding messageLine messageFields headerText
-length-message m content h =
-    simp length-append
+size-message m content h =
+    simp (size-append, size-piece)
     (omega
-    (arith, length-digits 10 (m .header .ring .0), length-digits 10 (m .header .representative), length-digits 10 (m .sender), length-digits 10 (m .number .0), length-digits 10 0, length-digits 10 (m .service), length-each escapedByte 4 length-escaped-byte content))
+    (arith, length-digits 10 (m .header .ring .0), length-digits 10 (m .header .representative), length-digits 10 (m .sender), length-digits 10 (m .number .0), length-digits 10 0, length-digits 10 (m .service), size-each escapedByte 4 size-escaped-byte content))
 
-length-token : (t : Token) → t .count ≤ mostRequests → length (tokenLine t) ≤ longestLine
+size-token : (t : Token) → t .count ≤ mostRequests → size (tokenLine t) ≤ longestLine
 unfolding tokenLine tokenFields headerText requestsText
-length-token t h =
-    simp length-append
+size-token t h =
+    simp (size-append, size-piece)
     (omega
-    (arith, length-digits 10 (t .header .ring .0), length-digits 10 (t .header .representative), length-digits 10 (t .addressee), length-digits 10 (t .number .0), length-digits 10 (t .highest .0), length-digits 10 (t .aru .0), length-blocker (t .blocker), length-digits 10 (t .round), length-listed (take (t .count) (t .requests)), length-take (t .count) (t .requests)))
+    (arith, length-digits 10 (t .header .ring .0), length-digits 10 (t .header .representative), length-digits 10 (t .addressee), length-digits 10 (t .number .0), length-digits 10 (t .highest .0), length-digits 10 (t .aru .0), size-blocker (t .blocker), length-digits 10 (t .round), size-listed (take (t .count) (t .requests)), length-take (t .count) (t .requests)))
 
-length-refusal : (number : ℕ) → length (refusalLine number) ≤ longestLine
-unfolding refusalLine
-length-refusal number = simp length-append (omega (arith, length-digits 10 number))
+size-unread : (number : ℕ) → size (unreadLine number) ≤ longestLine
+unfolding unreadLine
+size-unread number = simp (size-append, size-piece) (omega (arith, length-digits 10 number))
 
 -- ---- every way to read
 
 abbrev Short : List ℕ → Reading → Type 0
-Short content r = length (answerLine (r .answer) (r .token) content) ≤ longestLine
+Short content r = size (answerLine (r .answer) (r .token) content) ≤ longestLine
 
 branch : (b : Bool) (content : List ℕ) (x y : Reading) → (b ≡ true → Short content x) → Short content y → Short content (cond b x y)
 branch true content x y f h = f refl
@@ -92,24 +112,24 @@ short-message s =
     let m = messageOf s in
     let content = contentOf s in
     branch (messageReads s) content (aMessage m) (unreadAs Malformed)
-    (λ (e : messageReads s ≡ true). length-message m content ((message-facts m content (part e (λ (f : messageFollows m content ≡ false). simp (f, and-false)))) .short))
-    (length-refusal (frameRefusalNumber Malformed))
+    (λ (e : messageReads s ≡ true). size-message m content ((message-facts m content (part e (λ (f : messageFollows m content ≡ false). simp (f, and-false)))) .short))
+    (size-unread (frameRefusalNumber Malformed))
 
 short-token : (s : List ℕ) → Short (contentOf s) (readToken s)
 unfolding readToken
 short-token s =
     let t = tokenOf s in
     branch (tokenReads s) (contentOf s) (aToken t) (unreadAs Malformed)
-    (λ (e : tokenReads s ≡ true). length-token t ((token-facts t (part e (λ (f : tokenFollows t ≡ false). simp (f, and-false)))) .requests .few))
-    (length-refusal (frameRefusalNumber Malformed))
+    (λ (e : tokenReads s ≡ true). size-token t ((token-facts t (part e (λ (f : tokenFollows t ≡ false). simp (f, and-false)))) .requests .few))
+    (size-unread (frameRefusalNumber Malformed))
 
 short-kind : (s : List ℕ) → Short (contentOf s) (byKind (wordAt 2 s kindAt) (readMessage s) (readToken s) (unreadAs OtherKind))
 short-kind s =
     let kind = wordAt 2 s kindAt in
     branch (eqb kind messageKind) (contentOf s) (readMessage s) (cond (eqb kind tokenKind) (readToken s) (unreadAs OtherKind))
     (λ e. short-message s)
-    (branch (eqb kind tokenKind) (contentOf s) (readToken s) (unreadAs OtherKind) (λ e. short-token s) (length-refusal (frameRefusalNumber OtherKind)))
+    (branch (eqb kind tokenKind) (contentOf s) (readToken s) (unreadAs OtherKind) (λ e. short-token s) (size-unread (frameRefusalNumber OtherKind)))
 
 pub line-short : (s : List ℕ) → length (lineOf s) ≤ longestLine
-unfolding lineOf readOf
-line-short s = branch (lengthExact s) (contentOf s) (byKind (wordAt 2 s kindAt) (readMessage s) (readToken s) (unreadAs OtherKind)) (unreadAs WrongLength) (λ e. short-kind s) (length-refusal (frameRefusalNumber WrongLength))
+unfolding size lineText readOf
+line-short s = branch (lengthExact s) (contentOf s) (byKind (wordAt 2 s kindAt) (readMessage s) (readToken s) (unreadAs OtherKind)) (unreadAs WrongLength) (λ e. short-kind s) (size-unread (frameRefusalNumber WrongLength))

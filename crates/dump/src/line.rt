@@ -3,9 +3,9 @@
 ghost use mathlib.Core.Path.{_≡_};
 ghost use Prim.Native.Nat.{_+_, _≤_};
 ghost use lib.ListN.{length, take};
-ghost use Rattle.text.specs.Text.{Put, Whole, each};
-ghost use Rattle.dump.specs.Line.{field, headerText, messageFields, messageLine, blockerText, following, listed};
-ghost use Rattle.dump.specs.Line.{requestsText, tokenFields, tokenLine, refusalLine, lineOf, longestLine};
+ghost use Rattle.text.specs.Text.{filled, put, each, Whole};
+ghost use Rattle.dump.specs.Line.{field, headerText, messageFields, messageLine, blockerText, following, commaSeparated};
+ghost use Rattle.dump.specs.Line.{requestsText, tokenFields, tokenLine, unreadLine, lineOf, longestLine};
 use frames::Answer;
 use frames::Blocker;
 use frames::Header;
@@ -13,20 +13,20 @@ use frames::Message;
 use frames::Token;
 
 fn put_field(out: &mut [u8], at: usize, name: &[u8], value: u32) -> usize
-    ensures { λ r. ⌜ Put (now (out .entry)) at (field (now (name .entry)) value) r (now (out .exit)) ⌝ }
+    ensures { λ r. ⌜ filled r (now (out .exit)) ≡ put (field (now (name .entry)) value) (filled at (now (out .entry))) ⌝ }
 {
     let at = text::put_bytes(out, at, name);
     text::put_decimal(out, at, value)
 }
 
 fn put_id(out: &mut [u8], at: usize, name: &[u8], id: u16) -> usize
-    ensures { λ r. ⌜ Put (now (out .entry)) at (field (now (name .entry)) id) r (now (out .exit)) ⌝ }
+    ensures { λ r. ⌜ filled r (now (out .exit)) ≡ put (field (now (name .entry)) id) (filled at (now (out .entry))) ⌝ }
 {
     put_field(out, at, name, id as u32)
 }
 
 fn put_header(out: &mut [u8], at: usize, kind: &[u8], h: Header) -> usize
-    ensures { λ r. ⌜ Put (now (out .entry)) at (headerText (now (kind .entry)) h) r (now (out .exit)) ⌝ }
+    ensures { λ r. ⌜ filled r (now (out .exit)) ≡ put (headerText (now (kind .entry)) h) (filled at (now (out .entry))) ⌝ }
 {
     let at = text::put_bytes(out, at, kind);
     let at = put_field(out, at, b" ring=", h.ring.0);
@@ -35,7 +35,7 @@ fn put_header(out: &mut [u8], at: usize, kind: &[u8], h: Header) -> usize
 
 // The configuration of a message that reads is 0.
 fn put_message_fields(out: &mut [u8], at: usize, m: Message) -> usize
-    ensures { λ r. ⌜ Put (now (out .entry)) at (messageFields m) r (now (out .exit)) ⌝ }
+    ensures { λ r. ⌜ filled r (now (out .exit)) ≡ put (messageFields m) (filled at (now (out .entry))) ⌝ }
 {
     let at = put_header(out, at, b"message", m.header);
     let at = put_id(out, at, b" sender_id=", m.sender);
@@ -45,7 +45,7 @@ fn put_message_fields(out: &mut [u8], at: usize, m: Message) -> usize
 }
 
 fn put_message(out: &mut [u8], at: usize, m: Message, content: &[u8]) -> usize
-    ensures { λ r. ⌜ Put (now (out .entry)) at (messageLine m (now (content .entry))) r (now (out .exit)) ⌝ }
+    ensures { λ r. ⌜ filled r (now (out .exit)) ≡ put (messageLine m (now (content .entry))) (filled at (now (out .entry))) ⌝ }
 {
     let at = put_message_fields(out, at, m);
     let at = text::put_bytes(out, at, b" contents=\"");
@@ -54,7 +54,7 @@ fn put_message(out: &mut [u8], at: usize, m: Message, content: &[u8]) -> usize
 }
 
 fn put_blocker(out: &mut [u8], at: usize, b: Blocker) -> usize
-    ensures { λ r. ⌜ Put (now (out .entry)) at (blockerText b) r (now (out .exit)) ⌝ }
+    ensures { λ r. ⌜ filled r (now (out .exit)) ≡ put (blockerText b) (filled at (now (out .entry))) ⌝ }
 {
     match b {
         Blocker::Nobody => text::put_bytes(out, at, b" aru_id=nobody"),
@@ -63,14 +63,13 @@ fn put_blocker(out: &mut [u8], at: usize, b: Blocker) -> usize
 }
 
 fn put_next(out: &mut [u8], at: usize, number: u32) -> usize
-    ensures { λ r. ⌜ Put (now (out .entry)) at (following number) r (now (out .exit)) ⌝ }
+    ensures { λ r. ⌜ filled r (now (out .exit)) ≡ put (following number) (filled at (now (out .entry))) ⌝ }
 {
     put_field(out, at, b",", number)
 }
 
 fn put_following(out: &mut [u8], at: usize, numbers: &[u32]) -> usize
-    requires { ⌜ at ≤ length (now out) ⌝ }
-    ensures { λ r. ⌜ Put (now (out .entry)) at (each following (now (numbers .entry))) r (now (out .exit)) ⌝ }
+    ensures { λ r. ⌜ filled r (now (out .exit)) ≡ put (each following (now (numbers .entry))) (filled at (now (out .entry))) ⌝ }
 {
     let mut at = at;
     let mut i = 0;
@@ -82,8 +81,7 @@ fn put_following(out: &mut [u8], at: usize, numbers: &[u32]) -> usize
 }
 
 fn put_numbers(out: &mut [u8], at: usize, numbers: &[u32]) -> usize
-    requires { ⌜ at ≤ length (now out) ⌝ }
-    ensures { λ r. ⌜ Put (now (out .entry)) at (listed (now (numbers .entry))) r (now (out .exit)) ⌝ }
+    ensures { λ r. ⌜ filled r (now (out .exit)) ≡ put (commaSeparated (now (numbers .entry))) (filled at (now (out .entry))) ⌝ }
 {
     if numbers.len() == 0 {
         return at;
@@ -107,7 +105,7 @@ fn put_requests(
     requests: &[u32; frames::MOST_REQUESTS],
     count: u16,
 ) -> usize
-    ensures { λ r. ⌜ Put (now (out .entry)) at (requestsText (now (requests .entry)) count) r (now (out .exit)) ⌝ }
+    ensures { λ r. ⌜ filled r (now (out .exit)) ≡ put (requestsText (now (requests .entry)) count) (filled at (now (out .entry))) ⌝ }
 {
     let at = text::put_bytes(out, at, b" rtr=[");
     let at = put_numbers(out, at, first(requests, count as usize));
@@ -115,7 +113,7 @@ fn put_requests(
 }
 
 fn put_token_fields(out: &mut [u8], at: usize, t: Token) -> usize
-    ensures { λ r. ⌜ Put (now (out .entry)) at (tokenFields t) r (now (out .exit)) ⌝ }
+    ensures { λ r. ⌜ filled r (now (out .exit)) ≡ put (tokenFields t) (filled at (now (out .entry))) ⌝ }
 {
     let at = put_header(out, at, b"token", t.header);
     let at = put_id(out, at, b" addressee=", t.addressee);
@@ -125,7 +123,7 @@ fn put_token_fields(out: &mut [u8], at: usize, t: Token) -> usize
 }
 
 fn put_token(out: &mut [u8], at: usize, t: Token) -> usize
-    ensures { λ r. ⌜ Put (now (out .entry)) at (tokenLine t) r (now (out .exit)) ⌝ }
+    ensures { λ r. ⌜ filled r (now (out .exit)) ≡ put (tokenLine t) (filled at (now (out .entry))) ⌝ }
 {
     let blocker = t.blocker;
     let requests = t.requests;
@@ -137,7 +135,7 @@ fn put_token(out: &mut [u8], at: usize, t: Token) -> usize
 }
 
 fn put_refusal(out: &mut [u8], at: usize, number: u16) -> usize
-    ensures { λ r. ⌜ Put (now (out .entry)) at (refusalLine number) r (now (out .exit)) ⌝ }
+    ensures { λ r. ⌜ filled r (now (out .exit)) ≡ put (unreadLine number) (filled at (now (out .entry))) ⌝ }
 {
     let at = put_id(out, at, b"no ", number);
     text::put_bytes(out, at, b"\n")

@@ -4,22 +4,25 @@ use mathlib.Core.Path.{_≡_, refl, sym, ap, _∙_}
 use mathlib.Core.Bool.{Bool, true, false}
 use mathlib.Core.List.{List}
 use borrow.Author.Tests.{le-leb, lt-leb}
+use native.Mathlib.Omega.{arith}
+use lib.Dec.{leb}
 use lib.ListN.{length, take}
 use lib.Seq.{sets, length-take-le}
 use Rattle.words.proofs.StoreLaws.{Stored, stored-none, stored-next, front-stored}
 use Rattle.words.specs.Run.{wordsBytes}
 use Rattle.words.proofs.RunLaws.{length-words-bytes}
-use Rattle.frames.specs.Layout.{contentAt, messageSize, requestsAt, tokenSize}
+use Rattle.frames.specs.Layout.{contentAt, mostContent, messageSize, requestsAt, mostRequests, tokenSize}
 use Rattle.frames.specs.Message.{messageFollows, messageFixed, messageBytes}
 use Rattle.frames.specs.Token.{tokenFollows, tokenFixed, tokenBytes}
-use Rattle.frames.specs.Write.{WriteOutcome, writeOutcomeOf, writingOf, messageWritten, tokenWritten}
+use Rattle.frames.specs.Write.{WriteOutcome, writeOutcomeOf, writingOf, messageWritten, tokenWritten, framePut, messagePut, tokenPut}
 use Rattle.frames.specs.declared.refusal.Refusal.the-variants.{NoRoom, Malformed}
 use Rattle.frames.specs.declared.writer.Written.{Written}
 use Rattle.frames.specs.declared.writer.Written.the-variants.{Size, Refused}
 use Rattle.frames.specs.declared.message.Message.{Message}
 use Rattle.frames.specs.declared.token.Token.{Token}
 use Rattle.frames.proofs.RefusalLaws.{some-number, number-fixes}
-use Rattle.frames.proofs.Sizes.{message-fixed-length, token-fixed-length}
+use Rattle.frames.proofs.Facts.{message-facts, token-facts}
+use Rattle.frames.proofs.Sizes.{message-fixed-length, message-length, token-fixed-length, token-length}
 
 module _ (follows : Bool) (frame out : List ℕ) where
   pub write-malformed : follows ≡ false → (writeOutcomeOf (Refused Malformed) ≡ (writingOf follows frame out) .outcome) × (out ≡ (writingOf follows frame out) .out)
@@ -38,11 +41,38 @@ module _ (follows : Bool) (frame out : List ℕ) where
   unfolding writingOf
   write-counted n ok size room = rw (ok, size, le-leb n (length out) room)
 
-  write-taken : (n : ℕ) (out′ : List ℕ) → follows ≡ true → Stored out 0 frame n out′ → n ≤ length out → out′ ≡ (writingOf follows frame out) .out
-  unfolding writingOf
-  write-taken n out′ ok stored room =
-      let fits = le-leb n (length out) room in
-      rw (ok, stored .size, fits) (stored .is ∙ front-stored n frame out (stored .size) room)
+-- ---- what is put without asking 12
+
+module _ (short : Bool) (frame out : List ℕ) where
+  pub put-long : short ≡ false → out ≡ framePut short frame out
+  unfolding framePut
+  put-long long = rw long
+
+  pub put-roomless : (n : ℕ) → short ≡ true → length frame ≡ n → length out < n → out ≡ framePut short frame out
+  unfolding framePut
+  put-roomless n ok size less = rw (ok, size, lt-leb n (length out) less)
+
+  put-taken : (n : ℕ) (out′ : List ℕ) → short ≡ true → Stored out 0 frame n out′ → n ≤ length out → out′ ≡ framePut short frame out
+  unfolding framePut
+  put-taken n out′ ok stored room = rw (ok, stored .size, le-leb n (length out) room) (stored .is ∙ front-stored n frame out (stored .size) room)
+
+  put-written : (follows : Bool) (n : ℕ) → follows ≡ true → short ≡ true → length frame ≡ n → n ≤ length out → framePut short frame out ≡ (writingOf follows frame out) .out
+  unfolding framePut writingOf
+  put-written follows n ok fits size room = rw (ok, fits, size, le-leb n (length out) room)
+
+-- where the values follow the layout and there is room, it is what the writer leaves
+
+pub message-put : (m : Message) (content out : List ℕ)
+    → messageFollows m content ≡ true
+    → messageSize (length content) ≤ length out
+    → messagePut m content out ≡ (messageWritten m content out) .out
+message-put m content out ok room =
+    put-written (leb (length content) mostContent) (messageBytes m content) out (messageFollows m content) (messageSize (length content)) ok (le-leb _ _ (message-facts m content ok .short)) (message-length m content) room
+
+pub token-put : (t : Token) (out : List ℕ) → tokenFollows t ≡ true → tokenSize (t .count) ≤ length out → tokenPut t out ≡ (tokenWritten t out) .out
+token-put t out ok room =
+    let facts = token-facts t ok .requests in
+    put-written (leb (t .count) mostRequests) (tokenBytes t) out (tokenFollows t) (tokenSize (t .count)) ok (le-leb _ _ (facts .few)) (token-length t (omega (arith, facts .few, facts .places))) room
 
 -- the outcome fixes the answer
 pub outcome-fixes : (a b : Written) → writeOutcomeOf a ≡ writeOutcomeOf b → a ≡ b
@@ -54,27 +84,27 @@ outcome-fixes (Refused why) (Refused other) e = ap Refused (number-fixes why oth
 -- the fixed part and then the rest, stored at the front
 
 pub message-taken : (m : Message) (content out l₁ l₂ : List ℕ)
-    → messageFollows m content ≡ true
+    → length content ≤ mostContent
     → messageSize (length content) ≤ length out
     → l₁ ≡ sets out 0 (messageFixed m (messageSize (length content)))
     → l₂ ≡ sets l₁ contentAt content
-    → l₂ ≡ (messageWritten m content out) .out
-message-taken m content out l₁ l₂ ok room e₁ e₂ =
+    → l₂ ≡ messagePut m content out
+message-taken m content out l₁ l₂ short room e₁ e₂ =
     let size = messageSize (length content) in
     let w₁ = stored-next contentAt (messageFixed m size) l₁ (stored-none out 0) (message-fixed-length m size) e₁ in
     let w₂ = stored-next (length content) content l₂ w₁ refl e₂ in
-    write-taken (messageFollows m content) (messageBytes m content) out size l₂ ok w₂ room
+    put-taken (leb (length content) mostContent) (messageBytes m content) out size l₂ (le-leb _ _ short) w₂ room
 
 pub token-taken : (t : Token) (out l₁ l₂ : List ℕ)
-    → tokenFollows t ≡ true
+    → t .count ≤ mostRequests
     → tokenSize (t .count) ≤ length out
     → t .count ≤ length (t .requests)
     → l₁ ≡ sets out 0 (tokenFixed t)
     → l₂ ≡ sets l₁ requestsAt (wordsBytes 4 (take (t .count) (t .requests)))
-    → l₂ ≡ (tokenWritten t out) .out
-token-taken t out l₁ l₂ ok room few e₁ e₂ =
+    → l₂ ≡ tokenPut t out
+token-taken t out l₁ l₂ short room few e₁ e₂ =
     let requests = take (t .count) (t .requests) in
     let long : length (wordsBytes 4 requests) ≡ 4 * t .count = rw (length-words-bytes, length-take-le (t .count) (t .requests) few) in
     let w₁ = stored-next requestsAt (tokenFixed t) l₁ (stored-none out 0) (token-fixed-length t) e₁ in
     let w₂ = stored-next (4 * t .count) (wordsBytes 4 requests) l₂ w₁ long e₂ in
-    write-taken (tokenFollows t) (tokenBytes t) out (tokenSize (t .count)) l₂ ok w₂ room
+    put-taken (leb (t .count) mostRequests) (tokenBytes t) out (tokenSize (t .count)) l₂ (le-leb _ _ short) w₂ room

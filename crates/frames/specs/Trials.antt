@@ -17,16 +17,16 @@ use Rattle.frames.specs.declared.token.Blocker.the-variants.{Nobody, Mem
 
 -- ---- what a row says; a number is that of the question answered 'no', 0 for none
 
-pub data Trial : Type 0 where
+pub data FrameTrial : Type 0 where
   -- reading the frame of these values and writing them answer this number; this many bytes are written
-  message : Message → List ℕ → ℕ → ℕ → Trial
-  token : Token → ℕ → ℕ → Trial
+  message : Message → List ℕ → ℕ → ℕ → FrameTrial
+  token : Token → ℕ → ℕ → FrameTrial
   -- writing answers this number
-  writes : Writing → ℕ → Trial
+  writes : Writing → ℕ → FrameTrial
   -- reading these bytes answers this number
-  reads : List ℕ → ℕ → Trial
+  reads : List ℕ → ℕ → FrameTrial
   -- these bytes are those
-  are : List ℕ → List ℕ → Trial
+  are : List ℕ → List ℕ → FrameTrial
 
 abbrev pub readsAs : List ℕ → ℕ → Bool
 readsAs frame number = eqb (answerNumber (readOf frame .answer)) number
@@ -44,16 +44,16 @@ same (x ∷ xs) (y ∷ ys) = eqb x y && same xs ys
 abbrev pub room : List ℕ
 room = replicate 100 255
 
-abbrev pub passes : Trial → Bool
+abbrev pub passes : FrameTrial → Bool
 passes (message m content number count) = readsAs (messageBytes m content) number && writesAs (messageWritten m content room) number count
 passes (token t number count) = readsAs (tokenBytes t) number && writesAs (tokenWritten t room) number count
 passes (writes w number) = writesAs w number 0
 passes (reads frame number) = readsAs frame number
 passes (are frame bytes) = same frame bytes
 
-abbrev pub allPass : List Trial → Bool
-allPass [] = true
-allPass (t ∷ ts) = passes t && allPass ts
+abbrev pub allFramesPass : List FrameTrial → Bool
+allFramesPass [] = true
+allFramesPass (t ∷ ts) = passes t && allFramesPass ts
 
 -- ---- messages and tokens of members 3 and 7
 
@@ -94,8 +94,8 @@ firstBytes =
 
 -- ---- the table
 
-unfoldable pub table : List Trial
-table =
+unfoldable pub frameTrials : List FrameTrial
+frameTrials =
     are (tokenBytes (sampleToken 0 0 Nobody 0 [])) firstBytes
     -- messages
     ∷ message (sampleMessage 1 0) [] 0 22  -- no content

@@ -1,13 +1,12 @@
 // The writers.
 ghost use mathlib.Core.Path.{_≡_};
-ghost use mathlib.Core.Bool.{true};
 ghost use Prim.Native.Nat.{_≤_};
 ghost use lib.ListN.{length};
 ghost use lib.Seq.{sets};
-ghost use Rattle.frames.specs.Layout.{mostFramed, contentAt, messageSize, requestsAt, tokenSize, mostRequests};
-ghost use Rattle.frames.specs.Message.{messageFollows, messageFixed};
-ghost use Rattle.frames.specs.Token.{tokenFollows, tokenFixed};
-ghost use Rattle.frames.specs.Write.{writeOutcomeOf, messageWritten, tokenWritten};
+ghost use Rattle.frames.specs.Layout.{mostFramed, contentAt, requestsAt, mostRequests};
+ghost use Rattle.frames.specs.Message.{messageFixed};
+ghost use Rattle.frames.specs.Token.{tokenFixed};
+ghost use Rattle.frames.specs.Write.{writeOutcomeOf, messageWritten, tokenWritten, messagePut, tokenPut};
 use crate::header;
 use crate::layout;
 use crate::message;
@@ -34,13 +33,20 @@ fn put_message_fixed(out: &mut [u8], m: Message, size: usize)
     words::put_u16(out, layout::SERVICE_AT, m.service);
 }
 
-// A message that follows the layout, where there is room: nothing is asked again. Ruled out: a byte past the
-// frame changed; a content that starts a byte late.
+// Puts a message's frame to the front of `out`, for one that is known to follow the layout: only the content's
+// length and the room are asked, and where one is wrong `out` is left alone. Ruled out: a byte past the frame
+// changed; a content that starts a byte late.
 pub fn put_message(m: Message, content: &[u8], out: &mut [u8])
-    requires { ⌜ (messageFollows m (now content) ≡ true) × (messageSize (length (now content)) ≤ length (now out)) ⌝ }
-    ensures { λ _. ⌜ now (out .exit) ≡ (messageWritten m (now (content .entry)) (now (out .entry))) .out ⌝ }
+    ensures { λ _. ⌜ now (out .exit) ≡ messagePut m (now (content .entry)) (now (out .entry)) ⌝ }
 {
-    put_message_fixed(out, m, layout::CONTENT_AT + content.len());
+    if layout::MOST_CONTENT < content.len() {
+        return;
+    }
+    let size = layout::CONTENT_AT + content.len();
+    if out.len() < size {
+        return;
+    }
+    put_message_fixed(out, m, size);
     words::put_many(out, layout::CONTENT_AT, content);
 }
 
@@ -82,14 +88,20 @@ fn put_token_fixed(out: &mut [u8], t: Token)
     words::put_u16(out, layout::COUNT_AT, t.count);
 }
 
-// A token that follows the layout, where there is room: nothing is asked again. Ruled out: requests left out; a
-// byte past the frame changed.
+// Puts a token's frame to the front of `out`, for one that is known to follow the layout: only the count and the
+// room are asked, and where one is wrong `out` is left alone. Ruled out: requests left out; a byte past the frame
+// changed.
 pub fn put_token(t: Token, out: &mut [u8])
-    requires { ⌜ (tokenFollows t ≡ true) × (tokenSize (t .count) ≤ length (now out)) ⌝ }
-    ensures { λ _. ⌜ now (out .exit) ≡ (tokenWritten t (now (out .entry))) .out ⌝ }
+    ensures { λ _. ⌜ now (out .exit) ≡ tokenPut t (now (out .entry)) ⌝ }
 {
     let requests = t.requests;
     let n = t.count as usize;
+    if layout::MOST_REQUESTS < n {
+        return;
+    }
+    if out.len() < layout::token_size(t.count) {
+        return;
+    }
     put_token_fixed(out, t);
     words::put_u32s(out, layout::REQUESTS_AT, &requests[..n]);
 }

@@ -8,7 +8,7 @@ use native.Mathlib.Omega.{arith}
 use borrow.Author.Tests.{lt-ltb, le-ltb}
 use lib.ListN.{take}
 use Rattle.io.specs.Digits.{digits, Fewest}
-use Rattle.text.specs.Text.{Put, digitsTo, decimal, isPlain, hexadecimal, escapedByte}
+use Rattle.text.specs.Text.{Filled, put, piece, digitsTo, decimal, isPlain, hexadecimal, escapedByte}
 
 -- a number of two digits or more leaves room for one more
 enough : (most n : ℕ) → 10 ≤ n → n < 10 ^ suc most → 1 ≤ most
@@ -37,21 +37,21 @@ digits-decimal (suc (suc k)) (suc most) n h room f =
     let digit : n % 10 < 10 = mod-lt n (omega arith) in
     rw (digits-decimal (suc k) most (n / 10) (enough most n (omega arith) room) room′ (omega arith, below, λ e. rw down′ above), lt-ltb (n % 10) 10 digit, le-ltb n 10 (omega arith))
 
-pub decimal-put : {out : List ℕ} {at : ℕ} {after : ℕ} {out′ : List ℕ} (k n : ℕ) (bytes : List ℕ)
+pub decimal-put : (before : Filled) {after : Filled} (k n : ℕ) (bytes : List ℕ)
     → n < 2 ^ 32
     → Fewest 10 1 n k
     → take k bytes ≡ digits 10 k n
-    → Put out at (take (k - 0) bytes) after out′
-    → Put out at (decimal n) after out′
-decimal-put k n bytes h f e p = rw (sub-zero, e, digits-decimal k 10 n (omega arith) (omega arith) f) at p
+    → after ≡ put (piece (take (k - 0) bytes)) before
+    → after ≡ put (decimal n) before
+decimal-put before k n bytes h f e p = rw (sub-zero, e, digits-decimal k 10 n (omega arith) (omega arith) f) at p
 
-pub plain-put : {out : List ℕ} {at : ℕ} {after : ℕ} {out′ : List ℕ} (b : ℕ) → isPlain b ≡ true → Put out at (b ∷ []) after out′ → Put out at (escapedByte b) after out′
-plain-put b e p = rw e p
+pub plain-put : (before : Filled) {after : Filled} (b : ℕ) → isPlain b ≡ true → after ≡ put (piece (b ∷ [])) before → after ≡ put (escapedByte b) before
+plain-put before b e p = rw e p
 
-pub escaped-put : {out : List ℕ} {at : ℕ} {after : ℕ} {out′ : List ℕ} (b x y : ℕ)
+pub escaped-put : (before : Filled) {after : Filled} (b x y : ℕ)
     → isPlain b ≡ false
     → x ≡ hexadecimal (b / 16)
     → y ≡ hexadecimal (b % 16)
-    → Put out at (92 ∷ 120 ∷ x ∷ y ∷ []) after out′
-    → Put out at (escapedByte b) after out′
-escaped-put b x y e ex ey p = rw e (rw (ex, ey) at p)
+    → after ≡ put (piece (92 ∷ 120 ∷ x ∷ y ∷ [])) before
+    → after ≡ put (escapedByte b) before
+escaped-put before b x y e ex ey p = rw e (rw (ex, ey) at p)

@@ -1,5 +1,5 @@
 -- Text as bytes, and what putting a text into a buffer leaves.
-use Prim.Native.Nat.{ℕ, zero, suc, _+_, _/_, _%_, _≤_}
+use Prim.Native.Nat.{ℕ, zero, suc, _+_, _/_, _%_, _≤_, min}
 use Prim.Native.Char.{code}
 use Prim.Native.String.{String, [] as none, _∷_ as _then_}
 use mathlib.Core.Path.{_≡_}
@@ -11,10 +11,18 @@ use lib.Dec.{ltb, leb, eqb}
 
 -- ---- text
 
--- the codes of a text's characters
+-- the codes of a string's characters
 abbrev pub ascii : String → List ℕ
 ascii none = []
 ascii (c then s) = code c ∷ ascii s
+
+-- a text is bytes in pieces: a piece is put whole or left out
+abbrev pub Text : Type 0
+Text = List (List ℕ)
+
+-- of one piece
+abbrev pub piece : List ℕ → Text
+piece bytes = bytes ∷ []
 
 -- the digits of n, of which there are no more than `most`
 unfoldable pub digitsTo : ℕ → ℕ → List ℕ
@@ -22,8 +30,8 @@ digitsTo zero n = []
 digitsTo (suc most) n = cond (ltb n 10) ((48 + n) ∷ []) (digitsTo most (n / 10) ++ ((48 + n % 10) ∷ []))
 
 -- a number of 32 bits
-abbrev pub decimal : ℕ → List ℕ
-decimal n = digitsTo 10 n
+abbrev pub decimal : ℕ → Text
+decimal n = piece (digitsTo 10 n)
 
 -- `0` to `9`, then `a` to `f`
 abbrev pub hexadecimal : ℕ → ℕ
@@ -33,27 +41,41 @@ hexadecimal d = cond (ltb d 10) (48 + d) (87 + d)
 abbrev pub isPlain : ℕ → Bool
 isPlain b = leb 32 b && leb b 126 && not (eqb b 34) && not (eqb b 92)
 
-abbrev pub escapedByte : ℕ → List ℕ
-escapedByte b = cond (isPlain b) (b ∷ []) (92 ∷ 120 ∷ hexadecimal (b / 16) ∷ hexadecimal (b % 16) ∷ [])
+abbrev pub escapedByte : ℕ → Text
+escapedByte b = piece (cond (isPlain b) (b ∷ []) (92 ∷ 120 ∷ hexadecimal (b / 16) ∷ hexadecimal (b % 16) ∷ []))
 
 -- a text for each, one after another
-unfoldable pub each : (ℕ → List ℕ) → List ℕ → List ℕ
+unfoldable pub each : (ℕ → Text) → List ℕ → Text
 each f [] = []
 each f (x ∷ xs) = f x ++ each f xs
 
-abbrev pub escaped : List ℕ → List ℕ
+abbrev pub escaped : List ℕ → Text
 escaped bytes = each escapedByte bytes
 
 -- ---- putting it
 
--- A text put into a buffer at a position leaves a buffer and the position after the text. Where there is no room for the whole, some may be missing.
-pub record Put (out : List ℕ) (at : ℕ) (text : List ℕ) (after : ℕ) (out′ : List ℕ) : Type 0 where
-  pub size : length out′ ≡ length out
-  pub within : after ≤ length out
-  pub stored : at + length text ≤ length out → (after ≡ at + length text) × (out′ ≡ sets out at text)
+-- a buffer, and the position in it where the next piece goes
+pub record Filled : Type 0 where
+  pub at : ℕ
+  pub out : List ℕ
 
--- the whole text was put
-pub record Whole (out : List ℕ) (at : ℕ) (text : List ℕ) (after : ℕ) (out′ : List ℕ) : Type 0 where
+abbrev pub filled : ℕ → List ℕ → Filled
+filled at out = record { at = at; out = out }
+
+-- a piece at the position; one that there is no room for is left out, and a position past the end is the end
+unfoldable pub putPiece : List ℕ → Filled → Filled
+putPiece bytes f =
+    cond (leb (f .at + length bytes) (length (f .out)))
+    (filled (f .at + length bytes) (sets (f .out) (f .at) bytes))
+    (filled (min (f .at) (length (f .out))) (f .out))
+
+-- piece by piece
+unfoldable pub put : Text → Filled → Filled
+put [] f = f
+put (bytes ∷ text) f = put text (putPiece bytes f)
+
+-- the bytes are put whole
+pub record Whole (out : List ℕ) (at : ℕ) (bytes : List ℕ) (after : ℕ) (out′ : List ℕ) : Type 0 where
   pub within : after ≤ length out
-  pub ends : after ≡ at + length text
-  pub stored : out′ ≡ sets out at text
+  pub ends : after ≡ at + length bytes
+  pub stored : out′ ≡ sets out at bytes

@@ -1,13 +1,12 @@
 // Text, put into a buffer at a position. Each function answers the position after what it put. A
 // piece that there is no room for is left out.
 ghost use mathlib.Core.Path.{_≡_};
-ghost use Prim.Native.Nat.{_≤_, _<_};
-ghost use lib.ListN.{length};
-ghost use Rattle.text.specs.Text.{Put, decimal, isPlain, escapedByte, escaped};
+ghost use Prim.Native.Nat.{_<_};
+ghost use Rattle.text.specs.Text.{filled, put, piece, decimal, isPlain, escapedByte, escaped};
 ghost use Rattle.text.specs.Text.{hexadecimal as Text·hexadecimal};
 
 pub fn put_bytes(out: &mut [u8], at: usize, text: &[u8]) -> usize
-    ensures { λ r. ⌜ Put (now (out .entry)) at (now (text .entry)) r (now (out .exit)) ⌝ }
+    ensures { λ r. ⌜ filled r (now (out .exit)) ≡ put (piece (now (text .entry))) (filled at (now (out .entry))) ⌝ }
 {
     if out.len() < at {
         return out.len();
@@ -20,7 +19,7 @@ pub fn put_bytes(out: &mut [u8], at: usize, text: &[u8]) -> usize
 }
 
 pub fn put_decimal(out: &mut [u8], at: usize, n: u32) -> usize
-    ensures { λ r. ⌜ Put (now (out .entry)) at (decimal n) r (now (out .exit)) ⌝ }
+    ensures { λ r. ⌜ filled r (now (out .exit)) ≡ put (decimal n) (filled at (now (out .entry))) ⌝ }
 {
     let mut digits = [0u8; 20];
     let k = io::decimal(n as u64, &mut digits);
@@ -43,7 +42,7 @@ fn hexadecimal(d: u8) -> u8
 
 // A byte as itself, or as \x and two hexadecimal digits.
 fn put_escaped_byte(out: &mut [u8], at: usize, b: u8) -> usize
-    ensures { λ r. ⌜ Put (now (out .entry)) at (escapedByte b) r (now (out .exit)) ⌝ }
+    ensures { λ r. ⌜ filled r (now (out .exit)) ≡ put (escapedByte b) (filled at (now (out .entry))) ⌝ }
 {
     if is_plain(b) {
         return put_bytes(out, at, &[b]);
@@ -56,8 +55,7 @@ fn put_escaped_byte(out: &mut [u8], at: usize, b: u8) -> usize
 }
 
 pub fn put_escaped(out: &mut [u8], at: usize, bytes: &[u8]) -> usize
-    requires { ⌜ at ≤ length (now out) ⌝ }
-    ensures { λ r. ⌜ Put (now (out .entry)) at (escaped (now (bytes .entry))) r (now (out .exit)) ⌝ }
+    ensures { λ r. ⌜ filled r (now (out .exit)) ≡ put (escaped (now (bytes .entry))) (filled at (now (out .entry))) ⌝ }
 {
     let mut at = at;
     let mut i = 0;

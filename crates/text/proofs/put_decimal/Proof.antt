@@ -6,7 +6,7 @@ use Rattle.text.proofs.put_decimal.Tie as tie
 
 returns : tie.Need-returns
 returns c =
-    let made = c .before .before .before .before .before .before .decimal .ensures in decimal-put
+    let made = c .before .before .before .before .before .before .decimal .ensures in decimal-put _
     (c .before .before .before .before .before .before .decimal .result)
     (c .before .before .before .before .before .before .before .before .before .args .n) _ (omega arith) (made .1 .0) (made .1 .1)
     (c .before .before .put-bytes .ensures)

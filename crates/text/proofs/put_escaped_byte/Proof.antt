@@ -6,14 +6,14 @@ use Rattle.text.proofs.put_escaped_byte.Tie as tie
 
 returns : tie.Need-returns
 returns c =
-    plain-put
+    plain-put _
     (c .before .before .before .before .before .before .before .before .args .b) (sym
     (c .before .before .before .before .before .before .is-plain .ensures) ∙ c .before .before .before .before .before .if1 .taken)
     (c .before .before .put-bytes .ensures)
 
 returns-2 : tie.Need-returns-2
 returns-2 c =
-    escaped-put
+    escaped-put _
     (c .before .before .before .before .before .before .before .before .before .before .args .b) _ _ (sym
     (c .before .before .before .before .before .before .before .before .is-plain .ensures) ∙ c .before .before .before .before .before .before .before .if1 .left)
     (c .before .before .before .before .before .hexadecimal .ensures)

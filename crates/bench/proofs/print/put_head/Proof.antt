@@ -7,11 +7,11 @@ use Rattle.bench.proofs.print.put_head.Tie as tie
 returns : tie.Need-returns
 unfolding deliveryHead
 returns c =
-    put-then (put-then (put-then
-    (c .before .before .before .before .before .before .before .before .before .before .before .before .before .before .before .before .put-field .ensures)
-    (c .before .before .before .before .before .before .before .before .before .before .before .before .put-field2 .ensures))
-    (c .before .before .before .before .before .before .before .put-field3 .ensures))
-    (c .before .before .put-field4 .ensures)
+    put-then _ _ _ (put-then _ _ _ (put-then _ _ _
+    (c .before .before .before .before .before .before .before .before .before .before .before .before .before .before .before .before .put-spaced .ensures)
+    (c .before .before .before .before .before .before .before .before .before .before .before .before .put-spaced2 .ensures))
+    (c .before .before .before .before .before .before .before .put-spaced3 .ensures))
+    (c .before .before .put-spaced4 .ensures)
 
 pub put-head-spec : {M : Type 1} → statement M
 put-head-spec =

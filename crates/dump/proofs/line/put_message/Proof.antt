@@ -7,7 +7,7 @@ use Rattle.dump.proofs.line.put_message.Tie as tie
 returns : tie.Need-returns
 unfolding messageLine
 returns c =
-    put-then (put-then (put-then
+    put-then _ _ _ (put-then _ _ _ (put-then _ _ _
     (c .before .before .before .before .before .before .before .before .before .before .before .before .before .before .before .before .put-message-fields .ensures)
     (c .before .before .before .before .before .before .before .before .before .before .before .put-bytes .ensures))
     (c .before .before .before .before .before .before .before .put-escaped .ensures))

@@ -1,13 +1,13 @@
 use borrow.Author.Needs.{needs}
-use Rattle.dump.proofs.LineLaws.{listed-none, listed-some}
+use Rattle.dump.proofs.LineLaws.{none-listed, some-listed}
 use Rattle.dump.proofs.line.put_numbers.Statement.{statement}
 use Rattle.dump.proofs.line.put_numbers.Tie as tie
 
 returns : tie.Need-returns
-returns c = search listed-none
+returns c = search none-listed
 
 returns-2 : tie.Need-returns-2
-returns-2 c = search listed-some
+returns-2 c = search some-listed
 
 pub put-numbers-spec : {M : Type 1} → statement M
 put-numbers-spec =

@@ -7,7 +7,7 @@ use Rattle.dump.proofs.line.put_requests.Tie as tie
 returns : tie.Need-returns
 unfolding requestsText
 returns c =
-    put-then (put-then
+    put-then _ _ _ (put-then _ _ _
     (c .before .before .before .before .before .before .before .before .before .before .before .before .before .put-bytes .ensures) (rw
     (c .before .before .before .before .before .before .before .before .first .ensures) at
     (c .before .before .before .before .before .before .before .put-numbers .ensures)))

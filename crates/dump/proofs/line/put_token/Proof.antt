@@ -7,7 +7,7 @@ use Rattle.dump.proofs.line.put_token.Tie as tie
 returns : tie.Need-returns
 unfolding tokenLine
 returns c =
-    put-then (put-then (put-then (put-then
+    put-then _ _ _ (put-then _ _ _ (put-then _ _ _ (put-then _ _ _
     (c .before .before .before .before .before .before .before .before .before .before .before .before .before .before .before .before .before .before .before .before .before .put-token-fields .ensures)
     (c .before .before .before .before .before .before .before .before .before .before .before .before .before .before .before .before .before .put-blocker .ensures))
     (c .before .before .before .before .before .before .before .before .before .before .before .before .put-id .ensures))

@@ -7,7 +7,7 @@ use Rattle.dump.proofs.line.put_token_fields.Tie as tie
 returns : tie.Need-returns
 unfolding tokenFields
 returns c =
-    put-then (put-then (put-then (put-then
+    put-then _ _ _ (put-then _ _ _ (put-then _ _ _ (put-then _ _ _
     (c .before .before .before .before .before .before .before .before .before .before .before .before .before .before .before .before .before .before .before .before .before .before .put-header .ensures)
     (c .before .before .before .before .before .before .before .before .before .before .before .before .before .before .before .before .before .put-id .ensures))
     (c .before .before .before .before .before .before .before .before .before .before .before .before .put-field .ensures))

@@ -4,7 +4,7 @@ use borrow.Author.Needs.{needs}
 use borrow.Author.Tests.{not-true, not-false}
 use Rattle.frames.specs.Message.{messageFollows}
 use Rattle.frames.proofs.Sizes.{message-length}
-use Rattle.frames.proofs.WriteLaws.{write-malformed, write-roomless, write-counted}
+use Rattle.frames.proofs.WriteLaws.{write-malformed, write-roomless, write-counted, message-put}
 use Rattle.frames.proofs.writer.write_message.Statement.{statement}
 use Rattle.frames.proofs.writer.write_message.Tie as tie
 
@@ -17,11 +17,8 @@ returns c = write-malformed _ _ _ (sym (c .before .message-follows .ensures) ∙
 returns-2 : tie.Need-returns-2
 returns-2 c = write-roomless _ _ _ _ (follows (c .before)) (message-length _ (c .before .before .before .before .before .args .content .now)) (c .if2 .taken)
 
-put-message-requires : tie.Need-put-message-requires
-put-message-requires c κs = (follows (c .before .before), c .before .if2 .left)
-
 returns-3 : tie.Need-returns-3
-returns-3 c = (write-counted _ _ _ _ (follows (c .before .before .before .before .before)) (message-length _ (c .before .before .before .before .before .before .before .before .before .args .content .now)) (c .before .before .before .before .if2 .left), c .before .before .put-message .ensures)
+returns-3 c = (write-counted _ _ _ _ (follows (c .before .before .before .before .before)) (message-length _ (c .before .before .before .before .before .before .before .before .before .args .content .now)) (c .before .before .before .before .if2 .left), c .before .before .put-message .ensures ∙ message-put _ _ _ (follows (c .before .before .before .before .before)) (c .before .before .before .before .if2 .left))
 
 pub write-message-spec : {M : Type 1} → statement M
-write-message-spec = tie.close (tie.spec (λ c κs. search needs) returns (λ c. search needs) returns-2 put-message-requires (λ c. search needs) returns-3)
+write-message-spec = tie.close (tie.spec (λ c κs. search needs) returns (λ c. search needs) returns-2 (λ c κs. search needs) (λ c. search needs) returns-3)

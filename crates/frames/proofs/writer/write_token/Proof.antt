@@ -8,7 +8,7 @@ use borrow.Author.Tests.{not-true, not-false}
 use Rattle.frames.specs.Token.{tokenFollows}
 use Rattle.frames.proofs.Facts.{token-facts}
 use Rattle.frames.proofs.Sizes.{token-length}
-use Rattle.frames.proofs.WriteLaws.{write-malformed, write-roomless, write-counted}
+use Rattle.frames.proofs.WriteLaws.{write-malformed, write-roomless, write-counted, token-put}
 use Rattle.frames.proofs.writer.write_token.Statement.{statement}
 use Rattle.frames.proofs.writer.write_token.Tie as tie
 
@@ -24,11 +24,8 @@ returns c = write-malformed _ _ _ (sym (c .before .token-follows .ensures) ∙ n
 returns-2 : tie.Need-returns-2
 returns-2 c = write-roomless _ _ _ _ (follows (c .before .before)) (token-length _ (few (c .before .before)) ∙ sym (c .before .token-size .ensures)) (c .if2 .taken)
 
-put-token-requires : tie.Need-put-token-requires
-put-token-requires c κs = (follows (c .before .before .before), omega (arith, c .before .before .token-size .ensures, c .before .if2 .left))
-
 returns-3 : tie.Need-returns-3
-returns-3 c = (write-counted _ _ _ _ (follows (c .before .before .before .before .before .before)) (token-length _ (few (c .before .before .before .before .before .before)) ∙ sym (c .before .before .before .before .before .token-size .ensures)) (c .before .before .before .before .if2 .left), c .before .before .put-token .ensures)
+returns-3 c = (write-counted _ _ _ _ (follows (c .before .before .before .before .before .before)) (token-length _ (few (c .before .before .before .before .before .before)) ∙ sym (c .before .before .before .before .before .token-size .ensures)) (c .before .before .before .before .if2 .left), c .before .before .put-token .ensures ∙ token-put _ _ (follows (c .before .before .before .before .before .before)) (omega (arith, c .before .before .before .before .before .token-size .ensures, c .before .before .before .before .if2 .left)))
 
 pub write-token-spec : {M : Type 1} → statement M
-write-token-spec = tie.close (tie.spec (λ c κs. search needs) returns (λ c κs. search needs) returns-2 put-token-requires (λ c. search needs) returns-3)
+write-token-spec = tie.close (tie.spec (λ c κs. search needs) returns (λ c κs. search needs) returns-2 (λ c κs. search needs) (λ c. search needs) returns-3)
