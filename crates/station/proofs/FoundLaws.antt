@@ -10,9 +10,10 @@ use lib.Dec.{leb}
 use Rattle.words.specs.Scan.{every}
 use Rattle.frames.specs.Layout.{shortestToken}
 use Rattle.frames.specs.Token.{requestsFollow, tokenFollows, tokenBytes}
-use Rattle.frames.specs.Write.{writingOf, tokenWritten}
+use Rattle.frames.specs.Write.{writingOf, tokenPut}
 use Rattle.frames.proofs.Facts.{part}
 use Rattle.frames.proofs.Sizes.{token-length}
+use Rattle.frames.proofs.WriteLaws.{token-put}
 use Rattle.record.specs.Size.{mostMembers}
 use Rattle.record.specs.Members.{membersCounted, idsFollow, ownAmong, ringInRange, foundable}
 use Rattle.record.specs.Layout.{recordSize}
@@ -87,12 +88,12 @@ first-length ids ring = token-length (firstToken ids ring) (omega arith)
 pub first-written : (ids : List ℕ) (own ring : ℕ) (out out′ : List ℕ)
     → foundable ids own ring ≡ true
     → shortestToken ≤ length out
-    → out′ ≡ (tokenWritten (firstToken ids ring) out) .out
+    → out′ ≡ tokenPut (firstToken ids ring) out
     → out′ ≡ followedBy (tokenBytes (firstToken ids ring)) out
-unfolding writingOf
+unfolding writingOf firstToken
 first-written ids own ring out out′ e room w =
     let size = first-length ids ring in
-    w ∙ rw (first-follows ids own ring e, le-leb (length (tokenBytes (firstToken ids ring))) (length out) (omega (arith, size)))
+    w ∙ token-put (firstToken ids ring) out (first-follows ids own ring e) (omega arith) ∙ rw (first-follows ids own ring e, le-leb (length (tokenBytes (firstToken ids ring))) (length out) (omega (arith, size)))
 
 pub counted-most : (ids : List ℕ) → membersCounted ids ≡ true → length ids ≤ mostMembers
 counted-most ids e = leb-true (length ids) mostMembers (part e (λ (f : leb (length ids) mostMembers ≡ false). simp (f, and-false)))

@@ -6,13 +6,14 @@ use mathlib.Core.List.{List, _++_}
 use borrow.Author.Tests.{le-leb}
 use native.Mathlib.Nat.{sub-zero}
 use native.Mathlib.Omega.{arith}
-use lib.ListN.{length, take, replicate, length-take}
+use lib.ListN.{length, take, replicate, length-take, length-replicate}
 use lib.Dec.{ltb, eqb}
 use Rattle.words.specs.Scan.{lacks}
 use Rattle.frames.specs.Number.{mostNumber}
 use Rattle.frames.specs.Layout.{mostRound, mostRequests, longestToken, tokenSize}
 use Rattle.frames.specs.Token.{tokenFollows, tokenBytes}
-use Rattle.frames.specs.Write.{writingOf, tokenWritten}
+use Rattle.frames.specs.Write.{writingOf, tokenWritten, tokenPut}
+use Rattle.frames.proofs.WriteLaws.{token-put}
 use Rattle.frames.specs.declared.number.MessageNumber.{MessageNumber}
 use Rattle.frames.specs.declared.header.Header.{Header}
 use Rattle.frames.specs.declared.token.Token.{Token}
@@ -166,11 +167,14 @@ module _ (v : Visit) (a : Acceptable v) where
     pub size-fits : (size : ℕ) → size ≡ tokenSize (token .count) → size ≤ longestToken
     size-fits size e = let known : size ≡ tokenSize (length (requests′ v)) = e ∙ rw (is, token-count) in omega (arith, few-requests v a)
 
-    pub token-ready : (tokenFollows token ≡ true) × (tokenSize (token .count) ≤ longestToken)
-    token-ready = (rw is (token-follows v a), size-fits (tokenSize (token .count)) refl)
+    token-written : tokenPut token (replicate longestToken 0) ≡ tokenWritten token (replicate longestToken 0) .out
+    token-written =
+        let zeros : List ℕ = replicate longestToken 0 in
+        let long : length zeros ≡ longestToken = length-replicate {A = ℕ} longestToken 0 in
+        token-put token zeros (rw is (token-follows v a)) (omega (arith, long, size-fits (tokenSize (token .count)) refl))
 
     pub turn-made : (bytes : List ℕ) (size count stall : ℕ)
-        → bytes ≡ tokenWritten token (replicate longestToken 0) .out
+        → bytes ≡ tokenPut token (replicate longestToken 0)
         → size ≡ tokenSize (token .count)
         → count ≡ sentOf v .count
         → stall ≡ stall′ v
@@ -188,7 +192,7 @@ module _ (v : Visit) (a : Acceptable v) where
     turn-made bytes size count stall e f g h =
         let frame = tokenBytes (token′ v) in
         let put : bytes ≡ frame ++ replicate (longestToken - length frame) 0 =
-        rw (is, token-follows v a, le-leb (length frame) longestToken (token-short v a), drop-replicate longestToken (length frame)) at e in
+        rw (is, token-follows v a, le-leb (length frame) longestToken (token-short v a), drop-replicate longestToken (length frame)) at (e ∙ token-written) in
         let long : size ≡ length frame = f ∙ rw (is, token-long v a, token-count) in
         rw (put, long, g, h, is, token-aru, token-number)
 

@@ -3,17 +3,12 @@ use borrow.Author.Needs.{needs}
 use Rattle.record.specs.inner.Head.{recordIn}
 use Rattle.visit.specs.Visit.{Visit}
 use Rattle.visit.specs.Acceptable.{visit}
-use Rattle.visit.proofs.Forward.{sent-fits, token-ready, size-fits, turn-made}
+use Rattle.visit.proofs.Forward.{sent-fits, size-fits, turn-made}
 use Rattle.visit.proofs.forwarding.turn_after.Statement.{statement}
 use Rattle.visit.proofs.forwarding.turn_after.Tie as tie
 
 abbrev the-visit : tie.Start → Visit
 the-visit c = visit (recordIn (c .args .h) (c .args .s .now)) (c .args .t)
-
-put-token-requires : tie.Need-put-token-requires
-put-token-requires c κs =
-    let start = c .before .before in
-    token-ready (the-visit start) (start .pre .0) _ (start .pre .1)
 
 cast-t14 : tie.Need-cast-t14
 cast-t14 c =
@@ -33,4 +28,4 @@ returns c =
 pub turn-after-spec : {M : Type 1} → statement M
 turn-after-spec =
     tie.close
-    (tie.spec (λ c. search needs) put-token-requires cast-t14 (λ c κs. search needs) cast-t16 returns)
+    (tie.spec (λ c. search needs) (λ c κs. search needs) cast-t14 (λ c κs. search needs) cast-t16 returns)
