@@ -119,7 +119,7 @@ turnUnusedZero t = allZero (drop (t .size) (t .token))
 
 -- ---- whole, part by part. That a held message's place follows from its number alone needs no clause: no number is stored (`placeOf`)
 
--- of a station's own id
+-- the clauses of a log, in the record of the station with this id
 unfoldable pub logWhole : ℕ → Log → Bool
 logWhole own l =
     logInRange l
@@ -130,10 +130,11 @@ logWhole own l =
     && nextNotHeld l
     && logUnusedZero l
 
--- over a log
+-- those of the turn, over that log
 unfoldable pub turnWhole : Log → Turn → Bool
 turnWhole l t = turnInRange t && resendPasses (l .ring .0) (ids l) t && arusReached t (l .level .0) && turnUnusedZero t
 
+-- those of the waiting posts
 unfoldable pub postsWhole : Posts → Bool
 postsWhole p = postsInRange p && postsUnusedZero p
 

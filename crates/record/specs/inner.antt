@@ -1,2 +1,2 @@
--- What only the code looks at, and its contracts within the library: nobody has to believe it, for the statements above don't use it.
+-- The code's own view of a record: a head, over contents that are lent. Nobody has to believe it: the contracts of the calls don't cite it.
 pub mod Head

@@ -1,7 +1,7 @@
 -- A resending that is taken writes the remembered token and changes nothing else.
 use Prim.Native.Nat.{ℕ}
 use mathlib.Core.Path.{_≡_, refl}
-use mathlib.Core.Bool.{true, false, not, _||_, and-false}
+use mathlib.Core.Bool.{true, false, not, _||_}
 use mathlib.Core.List.{List, [], _∷_, map}
 use mathlib.Core.Logic.{_⊎_, inl, inr}
 use mathlib.Core.Option.{some}
@@ -14,6 +14,7 @@ use Rattle.record.specs.Ring.{current, ids, tokenPasses, isToken}
 use Rattle.record.specs.Whole.{resendPasses, whole}
 use Rattle.record.specs.declared.turn.Turn.{Turn}
 use Rattle.record.specs.declared.Record.{Record}
+use Rattle.record.proofs.WholeFacts.{whole-good}
 use Rattle.station.specs.Reply.{Reply}
 use Rattle.visit.specs.Output.{mostFrames}
 use Rattle.station.specs.Resend.{resent}
@@ -37,10 +38,9 @@ unfolding tokenPasses
 passes-token ring members frame e = part e (λ (f : isToken (readOf frame .answer) ≡ false). rw f)
 
 pub resendable-reads : (r : Record) → whole r ≡ true → mayResend (r .turn) ≡ true → isToken (readOf (remembered (r .turn)) .answer) ≡ true
-unfolding whole resendPasses
+unfolding resendPasses
 resendable-reads r w resendable =
-    let good : (not (mayResend (r .turn)) || tokenPasses (current r .ring .0) (ids (current r)) (remembered (r .turn))) ≡ true =
-    part w (λ (f : resendPasses (current r .ring .0) (ids (current r)) (r .turn) ≡ false). simp (f, and-false)) in
+    let good : (not (mayResend (r .turn)) || tokenPasses (current r .ring .0) (ids (current r)) (remembered (r .turn))) ≡ true = whole-good r w .turn .leave in
     passes-token (current r .ring .0) (ids (current r)) (remembered (r .turn)) (rw resendable at good)
 
 pub resendable-is : (t : Turn) → mayResend t ≡ true → resendableOf t ≡ some (tokenIn (remembered t))
