@@ -1,7 +1,7 @@
 -- Whole: what the code tests, part by part.
 use Prim.Native.Nat.{ℕ, _-_, _≤_}
 use mathlib.Core.Path.{_≡_, sym, _∙_}
-use mathlib.Core.Bool.{Bool, true, false, not, _&&_, and-false}
+use mathlib.Core.Bool.{Bool, true, false, not, _&&_, and-false, and-true}
 use native.Mathlib.Nat.{sub-zero}
 use borrow.Author.Tests.{le-leb, not-true, not-false}
 use lib.ListN.{take}
@@ -9,9 +9,10 @@ use Rattle.frames.specs.Number.{mostId}
 use Rattle.frames.proofs.Facts.{part}
 use Rattle.record.specs.Size.{mostMembers}
 use Rattle.record.specs.Members.{foundable}
-use Rattle.record.specs.Whole.{logInRange, turnInRange, sendersAreMembers, resendPasses, marksInOrder, arusReached, heldToLevel, nextNotHeld, logUnusedZero, turnUnusedZero, logWhole, turnWhole, postsWhole, whole}
+use Rattle.record.specs.Whole.{logInRange, turnInRange, postsInRange, sendersAreMembers, resendPasses, marksInOrder, arusReached, heldToLevel, nextNotHeld, logUnusedZero, turnUnusedZero, postsUnusedZero, logWhole, turnWhole, postsWhole, whole}
 use Rattle.record.specs.declared.log.Log.{Log}
 use Rattle.record.specs.declared.turn.Turn.{Turn}
+use Rattle.record.specs.declared.posts.Posts.{Posts}
 use Rattle.record.specs.declared.Record.{Record}
 use Rattle.record.proofs.RangeFacts.{LogRange, TurnRange, log-range, turn-range}
 
@@ -58,15 +59,29 @@ module _ (l : Log) (turn : Turn) (t : Bool) (e : t ≡ turnInRange turn) where
 
 -- ---- the record
 
-module _ (r : Record) (t : Bool) (e : t ≡ logWhole (r .own) (r .log)) where
-  pub whole-refused : not t ≡ true → false ≡ whole r
-  unfolding whole
-  whole-refused f = simp (sym e ∙ not-true t f, and-false)
+module _ (p : Posts) (t : Bool) (e : t ≡ postsInRange p) where
+  pub posts-refused : not t ≡ true → false ≡ postsWhole p
+  unfolding postsWhole
+  posts-refused f = rw (sym e ∙ not-true t f)
 
-  pub members-few : not t ≡ false → r .log .count ≤ mostMembers
-  unfolding logWhole
-  members-few f = log-range (r .log) (part (sym e ∙ not-false t f) (λ (g : logInRange (r .log) ≡ false). rw g)) .count
+  pub posts-tested : not t ≡ false → (z : Bool) → z ≡ postsUnusedZero p → z ≡ postsWhole p
+  unfolding postsWhole
+  posts-tested f z ez = rw (sym e ∙ not-false t f, ez)
 
-  pub whole-tested : not t ≡ false → r .own ≤ mostId → (a b : Bool) → a ≡ turnWhole (r .log) (r .turn) → b ≡ postsWhole (r .posts) → (a && b) ≡ whole r
+module _ (r : Record) (u : Bool) (g : u ≡ postsWhole (r .posts)) where
+  pub whole-postless : not u ≡ true → false ≡ whole r
   unfolding whole
-  whole-tested f own a b ea eb = rw (le-leb (r .own) mostId own, sym e ∙ not-false t f, ea, eb)
+  whole-postless f = simp (sym g ∙ not-true u f, and-false)
+
+  module _ (t : Bool) (e : t ≡ logWhole (r .own) (r .log)) where
+    pub whole-refused : not t ≡ true → false ≡ whole r
+    unfolding whole
+    whole-refused f = simp (sym e ∙ not-true t f, and-false)
+
+    pub members-few : not t ≡ false → r .log .count ≤ mostMembers
+    unfolding logWhole
+    members-few f = log-range (r .log) (part (sym e ∙ not-false t f) (λ (h : logInRange (r .log) ≡ false). rw h)) .count
+
+    pub whole-tested : not u ≡ false → not t ≡ false → r .own ≤ mostId → (a : Bool) → a ≡ turnWhole (r .log) (r .turn) → a ≡ whole r
+    unfolding whole
+    whole-tested k f own a ea = simp (le-leb (r .own) mostId own, sym e ∙ not-false t f, sym g ∙ not-false u k, ea, and-true)

@@ -150,19 +150,25 @@ fn posts_whole(p: PostsHead, waiting: &[u8]) -> bool
     requires { ⌜ length (now waiting) ≡ postContents ⌝ }
     ensures { λ b. ⌜ b ≡ postsWhole (postsOn p (now (waiting .entry))) ⌝ }
 {
-    range::posts_in_range(p, waiting) & unused::posts_unused_zero(p, waiting)
+    if !range::posts_in_range(p, waiting) {
+        return false;
+    }
+    unused::posts_unused_zero(p, waiting)
 }
 
-// Any values of the head and any contents. Ruled out: a record with a gap below its level; one whose token
-// is another ring's.
+// Any values of the head and any contents: the posts, then the log, which the turn needs. Ruled out: a record with a
+// gap below its level; one whose token is another ring's.
 pub fn is_whole_on(h: Head, contents: &[u8], waiting: &[u8]) -> bool
     requires { ⌜ (length (now contents) ≡ heldContents) × (length (now waiting) ≡ postContents) ⌝ }
     ensures { λ b. ⌜ b ≡ whole (recordOn h (now (contents .entry)) (now (waiting .entry))) ⌝ }
 {
+    if !posts_whole(h.posts, waiting) {
+        return false;
+    }
     if !log_whole(h.own, h.log, contents) {
         return false;
     }
-    turn_whole(h.log, contents, h.turn) & posts_whole(h.posts, waiting)
+    turn_whole(h.log, contents, h.turn)
 }
 
 // The same of a record by value.

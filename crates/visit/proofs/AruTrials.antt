@@ -12,11 +12,11 @@ use Rattle.record.specs.Held.{holds, heldWith, cleared, clearedFrom, letGo}
 use Rattle.record.specs.Posts.{postsFrom, taken}
 use Rattle.record.specs.Fresh.{freshHeld, membersPlaced, freshLog, freshTurn, freshPosts, fresh}
 use Rattle.visit.specs.Level.{reached, levelOf, raised}
-use Rattle.visit.specs.Deliver.{frameWith, dueFrom, due, delivered}
+use Rattle.visit.specs.Deliver.{frameWith, takeWhile, due, delivered}
 use Rattle.visit.specs.Visit.{others, allowance, requests, repeats, unanswered, newCount, withSent, newNumbers, highest′, logNow, setsAru, aru′, blocker′, stall′, safe′, missing, requests′, broadcasts, round′, nextIn, token′, turn′, log′, rec′}
 use Rattle.visit.specs.trials.Sample.{sendersTo, allPass}
 use Rattle.visit.specs.trials.Marks.{marking}
 
 pub marks-pass : allPass marking ≡ true
-unfolding flatten wordBytes wordsBytes every headerBytes tokenFixed holds heldWith cleared clearedFrom letGo postsFrom taken freshHeld membersPlaced freshLog freshTurn freshPosts fresh reached levelOf raised frameWith dueFrom due delivered others allowance those requests repeats unanswered newCount withSent numbersAfter newNumbers highest′ logNow setsAru aru′ blocker′ stall′ safe′ missing requests′ broadcasts round′ nextIn token′ turn′ log′ rec′ sendersTo allPass
+unfolding flatten wordBytes wordsBytes every headerBytes tokenFixed holds heldWith cleared clearedFrom letGo postsFrom taken freshHeld membersPlaced freshLog freshTurn freshPosts fresh reached levelOf raised frameWith takeWhile due delivered others allowance those requests repeats unanswered newCount withSent numbersAfter newNumbers highest′ logNow setsAru aru′ blocker′ stall′ safe′ missing requests′ broadcasts round′ nextIn token′ turn′ log′ rec′ sendersTo allPass
 marks-pass = refl

@@ -14,9 +14,9 @@ use Rattle.record.specs.Held.{holds}
 use Rattle.record.specs.declared.log.Log.{Log}
 use Rattle.record.proofs.WholeFacts.{LogGood}
 use Rattle.visit.specs.Output.{followedBy, mostDeliveries}
-use Rattle.visit.specs.Deliver.{frameOf, joined, isDue, dueFrom, due, handedOut}
+use Rattle.visit.specs.Deliver.{frameOf, joined, isDue, due, handedOut}
 use Rattle.record.specs.Count.{numbersAfter}
-use Rattle.visit.proofs.DueLaws.{due-most}
+use Rattle.visit.proofs.DueLaws.{dueFrom, due-is, due-most}
 use Rattle.visit.proofs.FrameLaws.{Writable, handed-fits}
 use Rattle.visit.proofs.LogSteps.{level-window}
 
@@ -38,8 +38,7 @@ pub record Counted (l : Log) (safe last : ℕ) : Type 0 where
 
 module _ (l : Log) (safe : ℕ) where
   pub count-starts : Counted l safe (l .delivered .0)
-  unfolding due
-  count-starts = record { low = omega arith; is = omega arith }
+  count-starts = record { low = omega arith; is = let same = ap length (due-is l safe) in omega arith }
 
   module _ (last : ℕ) (k : Counted l safe last) where
     pub count-stops : isDue l safe (last + 1) ≡ false → last - l .delivered .0 ≡ length (due l safe)
@@ -81,8 +80,7 @@ pub record RunFits (l : Log) (n : ℕ) : Type 0 where
 
 module _ (l : Log) (safe n : ℕ) (counted : n ≡ length (due l safe)) where
   due-run : numbersAfter (l .delivered .0) n ≡ due l safe
-  unfolding due
-  due-run = rw counted (sym (run-from l safe (l .delivered .0) (l .level .0 - l .delivered .0)))
+  due-run = rw (counted, due-is l safe) (sym (run-from l safe (l .delivered .0) (l .level .0 - l .delivered .0)))
 
   pub due-fits : LogGood l → RunFits l n
   due-fits g =

@@ -24,13 +24,13 @@ use Rattle.record.proofs.HeldWhole.{EntryGood}
 use Rattle.record.proofs.LogWhole.{holding, entry-good}
 use Rattle.record.proofs.WholeFacts.{LogGood, whole-good}
 use Rattle.visit.specs.Output.{mostDeliveries}
-use Rattle.visit.specs.Deliver.{ringHeader, messageWith, frameWith, entryOf, frameOf, joined, dueFrom, due, handedOut}
+use Rattle.visit.specs.Deliver.{ringHeader, messageWith, frameWith, entryOf, frameOf, joined, due, handedOut}
 use Rattle.visit.specs.Message.{logWithMessage}
 use Rattle.visit.specs.Reads.{Each, HeldReads, HandedReads, HeardReads}
 use Rattle.visit.proofs.EachLaws.{Between, each-map, each-mapped}
 use Rattle.visit.proofs.WithinLaws.{frames-within}
 use Rattle.visit.proofs.RingFacts.{ring-header}
-use Rattle.visit.proofs.DueLaws.{due-between, due-most}
+use Rattle.visit.proofs.DueLaws.{dueFrom, due-is, due-between, due-most}
 use Rattle.visit.proofs.LogSteps.{level-window}
 use Rattle.visit.proofs.MessageWhole.{heard-onward}
 
@@ -103,14 +103,14 @@ module _ (l : Log) (g : Writable l) (ns : List ℕ) (held : Each (λ n. holds l 
 
 module _ (l : Log) (g : Writable l) (safe : ℕ) where
   due-held : Each (λ n. holds l n ≡ true) (due l safe)
-  unfolding due
   due-held =
       let mark = l .delivered .0 in
       let left = l .level .0 - mark in
       let marks = g .log .ready .marks in
-      each-map (Between mark (mark + left)) (λ n. holds l n ≡ true) (dueFrom l safe (suc mark) left)
+      rw (due-is l safe)
+      (each-map (Between mark (mark + left)) (λ n. holds l n ≡ true) (dueFrom l safe (suc mark) left)
       (λ n b. marks .to-level n (omega (arith, marks .safe-first, b .above)) (omega (arith, b .above, b .upto)))
-      (due-between l safe mark left)
+      (due-between l safe mark left))
 
   due-reads : Each (HeldReads l) (due l safe)
   due-reads = numbers-read l g (due l safe) due-held

@@ -1,5 +1,5 @@
 -- A held message's frame, and delivery. [document 01, A message arrives: deliver]
-use Prim.Native.Nat.{ℕ, zero, suc, _+_, _-_}
+use Prim.Native.Nat.{ℕ, _+_, _-_}
 use mathlib.Core.Bool.{Bool, _||_, cond}
 use mathlib.Core.List.{List, [], _∷_, map, flatten}
 use lib.ListN.{length}
@@ -7,6 +7,7 @@ use lib.Dec.{leb, eqb}
 use Rattle.frames.specs.Message.{messageBytes}
 use Rattle.frames.specs.declared.header.Header.{Header}
 use Rattle.frames.specs.declared.message.Message.{Message}
+use Rattle.record.specs.Count.{numbersAfter}
 use Rattle.record.specs.Held.{Entry, placeOf, entryAt, logWith}
 use Rattle.record.specs.Members.{representative}
 use Rattle.record.specs.Ring.{ids}
@@ -46,13 +47,13 @@ isAgreed e = eqb (e .service) 0
 abbrev pub isDue : Log → ℕ → ℕ → Bool
 isDue l safe n = isAgreed (entryOf l n) || leb n safe
 
--- the numbers that are handed out, from n on, `left` of them up to the level
-unfoldable pub dueFrom : Log → ℕ → ℕ → ℕ → List ℕ
-dueFrom l safe n zero = []
-dueFrom l safe n (suc left) = cond (isDue l safe n) (n ∷ dueFrom l safe (suc n) left) []
+-- the numbers after the delivered mark up to the level, as far as each is handed out
+unfoldable pub takeWhile : (ℕ → Bool) → List ℕ → List ℕ
+takeWhile test [] = []
+takeWhile test (n ∷ ns) = cond (test n) (n ∷ takeWhile test ns) []
 
 unfoldable pub due : Log → ℕ → List ℕ
-due l safe = dueFrom l safe (suc (l .delivered .0)) (l .level .0 - l .delivered .0)
+due l safe = takeWhile (isDue l safe) (numbersAfter (l .delivered .0) (l .level .0 - l .delivered .0))
 
 -- their frames
 abbrev pub handedOut : Log → ℕ → List ℕ

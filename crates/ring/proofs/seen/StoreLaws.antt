@@ -16,7 +16,8 @@ use Rattle.record.proofs.HeldLaws.{heldAt, HeldSizes, stored-at, let-go-at, giv
 use Rattle.record.specs.declared.log.Log.{Log}
 use Rattle.record.proofs.WholeFacts.{LogGood}
 use Rattle.visit.specs.Level.{reached, levelOf, raised}
-use Rattle.visit.specs.Deliver.{ringHeader, frameWith, entryOf, isAgreed, isDue, dueFrom, due, delivered}
+use Rattle.visit.proofs.DueLaws.{dueFrom, due-is}
+use Rattle.visit.specs.Deliver.{ringHeader, frameWith, entryOf, isAgreed, isDue, due, delivered}
 use Rattle.ordering.specs.inner.Frame as seen
 use Rattle.ordering.specs.inner.Station as abstract
 use Rattle.ring.proofs.seen.View.{messageOf, messageAt, storeOf}
@@ -151,5 +152,4 @@ pub good-held : (l : Log) → LogGood l → HeldToDeliver l
 good-held l g n above below = let m = g .ready .marks in m .to-level n (omega (arith, m .safe-first)) below
 
 pub due-same : (l : Log) (safe : ℕ) → HeldToDeliver l → abstract.due (storeOf l) safe (l .level .0 - l .delivered .0) (l .delivered .0) ≡ map (messageHeld l) (due l safe)
-unfolding due
-due-same l safe held = due-from-same l safe (l .level .0 - l .delivered .0) (l .delivered .0) (λ n a b. held n a (omega arith))
+due-same l safe held = rw (due-is l safe) (due-from-same l safe (l .level .0 - l .delivered .0) (l .delivered .0) (λ n a b. held n a (omega arith)))
