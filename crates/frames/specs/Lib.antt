@@ -7,4 +7,4 @@ pub mod Token
 pub mod Read
 pub mod Write
 pub mod RoundTrip
-pub mod Trials
+pub mod trials

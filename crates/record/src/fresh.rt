@@ -5,8 +5,6 @@ ghost use lib.ListN.{length, replicate};
 ghost use Rattle.record.specs.Size.{mostMembers, heldContents, postContents};
 ghost use Rattle.record.specs.inner.Head.{logOn, postsOn, recordOn};
 ghost use Rattle.record.specs.Fresh.{membersPlaced, freshLog, freshTurn, freshPosts, fresh};
-use crate::Record;
-use crate::head;
 use crate::head::Head;
 use crate::head::LogHead;
 use crate::head::PostsHead;
@@ -83,16 +81,4 @@ pub fn fresh_head(ids: &[u16], own: u16, ring: RingNumber) -> Head
         turn: fresh_turn(),
         posts: fresh_posts(),
     }
-}
-
-// The same by value, the contents with it.
-pub fn fresh_record(ids: &[u16], own: u16, ring: RingNumber) -> Record
-    requires { ⌜ length (now ids) ≤ mostMembers ⌝ }
-    ensures { λ r. ⌜ r ≡ fresh (now (ids .entry)) own (ring .0) ⌝ }
-{
-    head::record_on(
-        fresh_head(ids, own, ring),
-        [0u8; size::HELD_CONTENTS],
-        [0u8; size::POST_CONTENTS],
-    )
 }

@@ -47,13 +47,11 @@ pub use whole::is_whole;
 // Only for the crates above: each of these has a `requires`, which they show where they call it.
 pub use bytes::decode;
 pub use bytes::encode;
-pub use bytes::get_head;
 pub use bytes::post_count;
 pub use bytes::put_fresh;
 pub use bytes::put_head;
 pub use bytes::put_post;
 pub use bytes::turn_in;
-pub use fresh::fresh_record;
 pub use held::is_held;
 pub use held::numbers_before;
 pub use lent::contents_in;
@@ -62,7 +60,6 @@ pub use lent::is_whole_at;
 pub use lent::let_go_in;
 pub use lent::store_in;
 pub use lent::take_oldest_in;
-pub use posts::queue;
 
 pub struct Record {
     pub own: u16,

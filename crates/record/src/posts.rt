@@ -38,30 +38,6 @@ pub fn queue_on(p: PostsHead, waiting: &mut [u8], service: u16, content: &[u8]) 
     }
 }
 
-// The same of posts by value.
-pub fn queue(posts: Posts, service: u16, content: &[u8]) -> Posts
-    requires { ⌜ (posts .count < mostPosts) × (length (now content) ≤ mostContent) ⌝ }
-    ensures { λ r. ⌜ r ≡ queued posts service (now (content .entry)) ⌝ }
-{
-    let services = posts.services;
-    let lengths = posts.lengths;
-    let mut waiting = posts.contents;
-    let before = PostsHead {
-        count: posts.count,
-        services,
-        lengths,
-    };
-    let after = queue_on(before, &mut waiting, service, content);
-    let services = after.services;
-    let lengths = after.lengths;
-    Posts {
-        count: after.count,
-        services,
-        lengths,
-        contents: waiting,
-    }
-}
-
 // The contents from place `first` on move to the front, one by one.
 fn move_up(waiting: &mut [u8], first: usize)
     requires { ⌜ (first ≤ mostPosts) × (length (now waiting) ≡ postContents) ⌝ }

@@ -10,7 +10,7 @@ use Rattle.frames.specs.Header.{headerOf, headerFollows, headerBytes}
 use Rattle.frames.specs.Message.{messageOf, messageFollows, messageFixed}
 use Rattle.frames.specs.Token.{requestsOf, requestsFollow, tokenOf, tokenFollows, tokenFixed}
 use Rattle.frames.specs.Read.{blankToken, readMessage, readToken, readOf}
-use Rattle.frames.specs.Trials.{firstBytes}
+use Rattle.frames.specs.trials.Trials.{firstBytes}
 use Rattle.record.specs.Count.{everyFrom, those, numbersAfter}
 use Rattle.record.specs.Held.{holds, heldNumbers, heldWith, cleared, clearedFrom, letGo}
 use Rattle.record.specs.Posts.{postsFrom, queued, taken}

@@ -30,7 +30,10 @@ fn allowance(round: u16, t: Turn) -> u32
     ensures { λ r. ⌜ r ≡ min mostNew (mostInRound - (round - t .broadcast)) ⌝ }
 {
     let others = others(round, t.broadcast);
-    words::smaller(MOST_NEW, words::saturating_sub(MOST_IN_ROUND, others))
+    if MOST_IN_ROUND <= others {
+        return 0;
+    }
+    words::smaller(MOST_NEW, MOST_IN_ROUND - others)
 }
 
 // 3. How many new messages. Ruled out: the posts alone decide; the repeats don't count.

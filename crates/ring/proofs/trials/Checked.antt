@@ -7,7 +7,7 @@ use mathlib.Core.Logic.{_⊎_, inl, inr}
 use borrow.Author.Tests.{eqb-true, ltb-true}
 use lib.ListN.{length}
 use lib.Dec.{ltb, eqb}
-use Rattle.frames.specs.Trials.{same}
+use Rattle.frames.specs.trials.Trials.{same}
 use Rattle.frames.proofs.Facts.{part}
 use Rattle.record.specs.declared.Record.{Record}
 use Rattle.ordering.specs.Lists.{Among}

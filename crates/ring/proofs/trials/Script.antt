@@ -4,7 +4,7 @@ use mathlib.Core.Bool.{true}
 use mathlib.Core.List.{List, [], _∷_}
 use Prim.Native.Nat.{ℕ}
 use lib.ListN.{length}
-use Rattle.frames.specs.Trials.{same}
+use Rattle.frames.specs.trials.Trials.{same}
 use Rattle.ordering.specs.Lists.{firstOf}
 use Rattle.station.proofs.AcceptanceTrials.{opened}
 use Rattle.ring.specs.Calls.{Call}

@@ -8,7 +8,7 @@ use lib.ListN.{length, replicate}
 use lib.Dec.{eqb}
 use Rattle.frames.specs.Message.{contentOf}
 use Rattle.frames.specs.Read.{readOf}
-use Rattle.frames.specs.Trials.{same}
+use Rattle.frames.specs.trials.Trials.{same}
 use Rattle.frames.specs.declared.reader.Answer.{Answer}
 use Rattle.frames.specs.declared.reader.Answer.the-variants.{Refused, IsMessage, IsToken}
 use Rattle.visit.specs.Output.{mostFrames, mostDeliveries}

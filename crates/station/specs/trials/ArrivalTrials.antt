@@ -2,7 +2,7 @@
 use Prim.Native.Nat.{ℕ}
 use mathlib.Core.List.{List, [], _∷_, _++_}
 use lib.ListN.{length, set, take}
-use Rattle.frames.specs.Trials.{from1to}
+use Rattle.frames.specs.trials.Trials.{from1to}
 use Rattle.frames.specs.declared.token.Blocker.the-variants.{Nobody, Member}
 use Rattle.record.specs.Held.{holds}
 use Rattle.record.specs.Whole.{whole}

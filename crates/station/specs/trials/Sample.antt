@@ -5,7 +5,7 @@ use lib.ListN.{length, getD, take, replicate}
 use Rattle.frames.specs.Message.{messageBytes}
 use Rattle.frames.specs.Token.{tokenBytes}
 use Rattle.frames.specs.Read.{readOf}
-use Rattle.frames.specs.Trials.{header}
+use Rattle.frames.specs.trials.Trials.{header}
 use Rattle.frames.specs.declared.token.Blocker.{Blocker}
 use Rattle.frames.specs.declared.token.Token.{Token}
 use Rattle.record.specs.declared.Record.{Record}

@@ -6,7 +6,7 @@ use mathlib.Core.List.{List, [], _∷_, _++_}
 use lib.ListN.{replicate}
 use Rattle.record.specs.Layout.{recordSize}
 use Rattle.frames.specs.Layout.{shortestToken, longestToken}
-use Rattle.frames.specs.Trials.{firstBytes}
+use Rattle.frames.specs.trials.Trials.{firstBytes}
 use Rattle.record.specs.Fresh.{freshLog, freshPosts, fresh}
 use Rattle.record.specs.declared.Record.{Record}
 use Rattle.station.specs.Answer.{outcomeOf}

@@ -5,7 +5,7 @@ use mathlib.Core.List.{List, [], _∷_, _++_}
 use lib.ListN.{length, set, replicate}
 use lib.Dec.{eqb}
 use Rattle.frames.specs.Layout.{mostRequests}
-use Rattle.frames.specs.Trials.{same, header}
+use Rattle.frames.specs.trials.Trials.{same, header}
 use Rattle.frames.specs.declared.token.Blocker.{Blocker}
 use Rattle.frames.specs.declared.token.Token.{Token}
 use Rattle.record.specs.Held.{placeOf, logWith}
