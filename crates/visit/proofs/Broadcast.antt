@@ -44,22 +44,22 @@ module _ (v : Visit) (a : Acceptable v) where
   few-listed = omega (arith, few-repeats v, token-good v a .requests .few)
 
   module _ (s : Split)
-      (sifts : s ≡ record {
+      (splits : s ≡ record {
         held = listed (those (holds (log v)) (take (v .token .count - 0) (v .token .requests)));
         rest = listed (those (λ n. not (holds (log v) n)) (take (v .token .count - 0) (v .token .requests)));
       }) where
-    sifted : s ≡ record { held = listed (repeats v); rest = listed (unanswered v) }
+    split-is : s ≡ record { held = listed (repeats v); rest = listed (unanswered v) }
     unfolding repeats unanswered requests
-    sifted = sifts ∙ rw sub-zero
+    split-is = splits ∙ rw sub-zero
 
     split-list : listIn (s .held) ≡ repeats v
-    split-list = rw sifted (list-of-listed (repeats v))
+    split-list = rw split-is (list-of-listed (repeats v))
 
     pub split-count : s .held .count ≡ length (repeats v)
-    split-count = rw sifted (count-of-listed (repeats v))
+    split-count = rw split-is (count-of-listed (repeats v))
 
     split-rest : s .rest ≡ listed (unanswered v)
-    split-rest = ap (λ (x : Split). x .rest) sifted
+    split-rest = ap (λ (x : Split). x .rest) split-is
 
     repeats-held : Each (λ n. holds (log v) n ≡ true) (repeats v)
     unfolding repeats
