@@ -11,14 +11,14 @@ use frames::TokenNumber;
 use frames::Written;
 
 // The numbers from 1 on, as many as are asked for and have room.
-fn requests(count: u16) -> [u32; frames::MOST_REQUESTS] {
-    let mut numbers = [0u32; frames::MOST_REQUESTS];
+fn requests(count: u16) -> [MessageNumber; frames::MOST_REQUESTS] {
+    let mut numbers = [MessageNumber(0); frames::MOST_REQUESTS];
     let mut i = 0;
     while i < frames::MOST_REQUESTS {
         if count as usize <= i {
             return numbers;
         }
-        numbers[i] = i as u32 + 1;
+        numbers[i] = MessageNumber(i as u32 + 1);
         i += 1;
     }
     numbers

@@ -10,7 +10,7 @@ use lib.ListN.{length, take, length-append, length-take}
 use Rattle.words.specs.Word.{wordAt}
 use Rattle.frames.specs.Layout.{kindAt, messageKind, mostContent, tokenKind, mostRequests}
 use Rattle.frames.specs.Message.{messageOf, contentOf, messageFollows}
-use Rattle.frames.specs.Token.{tokenOf, tokenFollows}
+use Rattle.frames.specs.Token.{requestNumbers, tokenOf, tokenFollows}
 use Rattle.frames.specs.Refusal.{frameRefusalNumber}
 use Rattle.frames.specs.Read.{lengthExact, messageReads, tokenReads, readMessage, readToken, byKind, readOf, aMessage, aToken, unreadAs}
 use Rattle.frames.proofs.Facts.{part, message-facts, token-facts}
@@ -91,7 +91,7 @@ unfolding tokenLine tokenFields headerText requestsText
 size-token t h =
     simp (size-append, size-piece)
     (omega
-    (arith, length-digits 10 (t .header .ring .0), length-digits 10 (t .header .representative), length-digits 10 (t .addressee), length-digits 10 (t .number .0), length-digits 10 (t .highest .0), length-digits 10 (t .aru .0), size-blocker (t .blocker), length-digits 10 (t .round), size-listed (take (t .count) (t .requests)), length-take (t .count) (t .requests)))
+    (arith, length-digits 10 (t .header .ring .0), length-digits 10 (t .header .representative), length-digits 10 (t .addressee), length-digits 10 (t .number .0), length-digits 10 (t .highest .0), length-digits 10 (t .aru .0), size-blocker (t .blocker), length-digits 10 (t .round), size-listed (take (t .count) (requestNumbers t)), length-take (t .count) (requestNumbers t)))
 
 size-unread : (number : ℕ) → size (unreadLine number) ≤ longestLine
 unfolding unreadLine

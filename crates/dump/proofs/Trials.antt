@@ -7,7 +7,7 @@ use Rattle.words.specs.Run.{words}
 use Rattle.words.specs.Scan.{every}
 use Rattle.frames.specs.Header.{headerOf, headerFollows}
 use Rattle.frames.specs.Message.{messageOf, messageFollows}
-use Rattle.frames.specs.Token.{requestsOf, requestsFollow, tokenOf, tokenFollows}
+use Rattle.frames.specs.Token.{numbersIn, numbered, requestsOf, requestsFollow, tokenOf, tokenFollows}
 use Rattle.frames.specs.Read.{readMessage, readToken, readOf, blankToken}
 use Rattle.text.specs.Text.{ascii, digitsTo, each}
 use Rattle.dump.specs.Line.{headerText, messageFields, messageLine, requestsText, tokenFields, tokenLine, unreadLine, lineText, lineOf}
@@ -23,7 +23,7 @@ abbrev token : List ℕ
 token = 36 ∷ 0 ∷ 2 ∷ 0 ∷ 4 ∷ 0 ∷ 0 ∷ 0 ∷ 3 ∷ 0 ∷ 7 ∷ 0 ∷ 2 ∷ 0 ∷ 0 ∷ 0 ∷ 3 ∷ 0 ∷ 0 ∷ 0 ∷ 2 ∷ 0 ∷ 0 ∷ 0 ∷ 7 ∷ 0 ∷ 1 ∷ 0 ∷ 2 ∷ 0 ∷ 3 ∷ 0 ∷ 0 ∷ 0 ∷ 2 ∷ 0 ∷ 0 ∷ 0 ∷ []
 
 pub token-line : lineOf token ≡ ascii "token ring=4 rep=3 addressee=7 token_seq=2 seq=3 aru=2 aru_id=7 fcc=1 rtr=[3,2]\n"
-unfolding lineText flatten readOf wordAt wordOf words every readMessage readToken tokenOf tokenFollows requestsOf requestsFollow headerOf headerFollows tokenLine tokenFields requestsText headerText digitsTo each
+unfolding lineText flatten readOf wordAt wordOf words every readMessage readToken tokenOf tokenFollows numbersIn numbered requestsOf requestsFollow headerOf headerFollows tokenLine tokenFields requestsText headerText digitsTo each
 token-line = refl
 
 -- the first token of ring 4
@@ -31,7 +31,7 @@ abbrev first : List ℕ
 first = 28 ∷ 0 ∷ 2 ∷ 0 ∷ 4 ∷ 0 ∷ 0 ∷ 0 ∷ 3 ∷ 0 ∷ 3 ∷ 0 ∷ 1 ∷ 0 ∷ 0 ∷ 0 ∷ 0 ∷ 0 ∷ 0 ∷ 0 ∷ 0 ∷ 0 ∷ 0 ∷ 0 ∷ 0 ∷ 0 ∷ 0 ∷ 0 ∷ 0 ∷ 0 ∷ []
 
 pub first-line : lineOf first ≡ ascii "token ring=4 rep=3 addressee=3 token_seq=1 seq=0 aru=0 aru_id=nobody fcc=0 rtr=[]\n"
-unfolding lineText flatten readOf wordAt wordOf words every readMessage readToken tokenOf tokenFollows requestsOf requestsFollow headerOf headerFollows tokenLine tokenFields requestsText headerText digitsTo each
+unfolding lineText flatten readOf wordAt wordOf words every readMessage readToken tokenOf tokenFollows numbersIn numbered requestsOf requestsFollow headerOf headerFollows tokenLine tokenFields requestsText headerText digitsTo each
 first-line = refl
 
 -- too short for a header

@@ -3,6 +3,7 @@ use Prim.Native.Nat.{ℕ}
 use mathlib.Core.List.{List, [], _∷_, _++_, flatten}
 use lib.ListN.{take}
 use Rattle.frames.specs.Message.{configuration, contentOf}
+use Rattle.frames.specs.Token.{requestNumbers}
 use Rattle.frames.specs.Read.{readOf}
 use Rattle.frames.specs.Refusal.{frameRefusalNumber}
 use Rattle.frames.specs.declared.header.Header.{Header}
@@ -63,7 +64,7 @@ tokenLine t =
     tokenFields t
     ++ blockerText (t .blocker)
     ++ field (ascii " fcc=") (t .round)
-    ++ requestsText (t .requests) (t .count)
+    ++ requestsText (requestNumbers t) (t .count)
     ++ piece (ascii "\n")
 
 -- ---- a line

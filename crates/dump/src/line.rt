@@ -126,7 +126,8 @@ fn put_token(out: &mut [u8], at: usize, t: Token) -> usize
     ensures { λ r. ⌜ filled r (now (out .exit)) ≡ put (tokenLine t) (filled at (now (out .entry))) ⌝ }
 {
     let blocker = t.blocker;
-    let requests = t.requests;
+    let places = t.requests;
+    let requests = frames::numbers_in(places);
     let at = put_token_fields(out, at, t);
     let at = put_blocker(out, at, blocker);
     let at = put_id(out, at, b" fcc=", t.round);

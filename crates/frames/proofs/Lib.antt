@@ -1,4 +1,5 @@
 pub mod RefusalLaws
+pub mod NumberedLaws
 pub mod Facts
 pub mod Sizes
 pub mod PutLaws

@@ -17,13 +17,15 @@ use Rattle.frames.specs.Number.{mostNumber, mostId}
 use Rattle.frames.specs.Layout.{lengthAt, lengthSize, kindAt, headerSize, configurationAt, messageKind, messageSize, mostRequests, tokenKind, tokenSize}
 use Rattle.frames.specs.Header.{headerOf, headerFollows, headerBytes}
 use Rattle.frames.specs.Message.{configuration, messageOf, contentOf, messageFixed, messageBytes}
-use Rattle.frames.specs.Token.{blockerOf, blockerId, blockerFollows, requestCount, requestsOf, tokenOf, tokenFixed, tokenBytes}
+use Rattle.frames.specs.Token.{blockerOf, blockerId, blockerFollows, requestCount, numbered, requestNumbers, requestsOf, tokenOf, tokenFixed, tokenBytes}
 use Rattle.frames.specs.RoundTrip.{MessageRestored, TokenRestored}
+use Rattle.frames.specs.declared.number.MessageNumber.{MessageNumber}
 use Rattle.frames.specs.declared.token.Blocker.{Blocker}
 use Rattle.frames.specs.declared.token.Blocker.the-variants.{Nobody, Member}
 use Rattle.frames.specs.declared.token.Token.{Token}
 use Rattle.frames.specs.declared.header.Header.{Header}
 use Rattle.frames.specs.declared.message.Message.{Message}
+use Rattle.frames.proofs.NumberedLaws.{numbered-back}
 use Rattle.frames.proofs.Facts.{part, header-facts, MessageFacts, message-facts, RequestFacts, TokenFacts, token-facts}
 use Rattle.frames.proofs.Sizes.{message-length, token-length}
 use Rattle.frames.proofs.ReadLaws.{read-as-message, read-as-token, message-right, token-right}
@@ -112,7 +114,7 @@ requests-back n requests highest most facts =
     let zeros : drop n requests ≡ replicate (mostRequests - n) 0 = rw rest at (zeros-are (drop n requests) (facts .rest)) in
     rw (first, ← zeros) (take-append-drop n requests)
 
-token-same : (t : Token) (header : Header) (addressee number highest aru : ℕ) (blocker : Blocker) (round count : ℕ) (requests : List ℕ)
+token-same : (t : Token) (header : Header) (addressee number highest aru : ℕ) (blocker : Blocker) (round count : ℕ) (requests : List MessageNumber)
     → header ≡ t .header
     → addressee ≡ t .addressee
     → number ≡ t .number .0
@@ -134,9 +136,9 @@ module _ (t : Token) (facts : TokenFacts t) where
   unfolding wordAt wordOf wordBytes headerBytes tokenFixed
   token-count-back = word-back 2 (t .count) (omega (arith, facts .requests .few))
 
-  token-requests-back : requestsOf (t .count) (tokenBytes t) ≡ t .requests
+  token-requests-back : requestsOf (t .count) (tokenBytes t) ≡ requestNumbers t
   unfolding requestsOf wordBytes headerBytes tokenFixed
-  token-requests-back = requests-back (t .count) (t .requests) (t .highest .0) (facts .highest) (facts .requests)
+  token-requests-back = requests-back (t .count) (requestNumbers t) (t .highest .0) (facts .highest) (facts .requests)
 
   token-back : tokenOf (tokenBytes t) ≡ t
   unfolding wordAt wordOf wordBytes headerOf headerBytes tokenFixed tokenOf
@@ -151,7 +153,7 @@ module _ (t : Token) (facts : TokenFacts t) where
       (ap blockerOf (word-back 2 (blockerId (t .blocker)) (blocked .0)) ∙ blocked .1)
       (word-back 2 (t .round) (omega (arith, facts .round)))
       token-count-back
-      (rw token-count-back token-requests-back)
+      (rw (token-count-back, token-requests-back, numbered-back))
 
 token-kind : (t : Token) → wordAt 2 (tokenBytes t) kindAt ≡ tokenKind
 unfolding wordAt wordOf wordBytes headerBytes tokenFixed

@@ -25,6 +25,7 @@ use Rattle.frames.specs.declared.token.Token.{Token}
 use Rattle.frames.specs.declared.reader.Answer.{Answer}
 use Rattle.frames.specs.declared.reader.Answer.the-variants.{Refused, IsMessage, IsToken}
 use Rattle.frames.specs.declared.reader.Reading.{Reading}
+use Rattle.frames.proofs.NumberedLaws.{numbers-back}
 use Rattle.frames.proofs.Facts.{part}
 
 -- ---- which way the reader went
@@ -210,7 +211,7 @@ token-there s b size sized kinded =
     let w₆ = word-split 2 s blockerAt b (omega arith) in
     let w₇ = word-split 2 s roundAt b (omega arith) in
     let w₈ = word-split 2 s countAt b (omega arith) in
-    rw (requests-there s (requestCount s) b size, blocker-there) (simp append-assoc (rw (w₈, w₇, w₆, w₅, w₄, w₃, w₂) h))
+    rw (numbers-back, requests-there s (requestCount s) b size, blocker-there) (simp append-assoc (rw (w₈, w₇, w₆, w₅, w₄, w₃, w₂) h))
 
 pub token-rewritten : TokenRewritten
 token-rewritten s t b e =

@@ -14,7 +14,7 @@ use Rattle.words.proofs.RunLaws.{length-words-bytes}
 use Rattle.frames.specs.Layout.{lengthAt, lengthSize, headerSize, contentAt, messageSize, requestsAt, tokenSize}
 use Rattle.frames.specs.Header.{ownSize, framedSize, headerBytes}
 use Rattle.frames.specs.Message.{messageFixed, messageBytes}
-use Rattle.frames.specs.Token.{tokenFixed, tokenBytes}
+use Rattle.frames.specs.Token.{requestNumbers, tokenFixed, tokenBytes}
 use Rattle.frames.specs.declared.header.Header.{Header}
 use Rattle.frames.specs.declared.message.Message.{Message}
 use Rattle.frames.specs.declared.token.Token.{Token}
@@ -34,8 +34,8 @@ pub token-fixed-length : (t : Token) → length (tokenFixed t) ≡ requestsAt
 unfolding tokenFixed
 token-fixed-length t = simp (length-append, length-word, header-length)
 
-pub token-length : (t : Token) → t .count ≤ length (t .requests) → length (tokenBytes t) ≡ tokenSize (t .count)
-token-length t few = simp (length-append, token-fixed-length, length-words-bytes, length-take-le (t .count) (t .requests) few)
+pub token-length : (t : Token) → t .count ≤ length (requestNumbers t) → length (tokenBytes t) ≡ tokenSize (t .count)
+token-length t few = simp (length-append, token-fixed-length, length-words-bytes, length-take-le (t .count) (requestNumbers t) few)
 
 -- ---- a stream
 

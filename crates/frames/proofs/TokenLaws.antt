@@ -13,7 +13,7 @@ use Rattle.words.proofs.ScanLaws.{to-end}
 use Rattle.frames.specs.Number.{mostNumber, isNumber, isId}
 use Rattle.frames.specs.Header.{headerFollows}
 use Rattle.frames.specs.Layout.{mostRound, mostRequests, requestsAt}
-use Rattle.frames.specs.Token.{blockerFollows, requestsOf, requestsFollow, tokenFollows}
+use Rattle.frames.specs.Token.{blockerFollows, requestNumbers, requestsOf, requestsFollow, tokenFollows}
 use Rattle.frames.specs.declared.token.Token.{Token}
 
 pub drop-replicate : {A : Type 0} (m n : ℕ) (a : A) → drop n (replicate m a) ≡ replicate (m - n) a
@@ -40,12 +40,13 @@ module _ (n : ℕ) (requests : List ℕ) (highest : ℕ) (places : length reques
   unfolding requestsFollow
   requests-tested known once rest few e f g = rw (e, f, rw to-end at g, eq-eqb _ _ places, le-leb _ _ few)
 
-pub token-tested : (t : Token) (header addressee number blocker requests : Bool)
+pub token-tested : (t : Token) (numbers : List ℕ) (header addressee number blocker requests : Bool)
     → header ≡ headerFollows (t .header)
     → addressee ≡ isId (t .addressee)
     → number ≡ isNumber (t .number .0)
     → blocker ≡ blockerFollows (t .blocker) (t .aru .0) (t .highest .0)
-    → requests ≡ requestsFollow (t .count) (t .requests) (t .highest .0)
+    → numbers ≡ requestNumbers t
+    → requests ≡ requestsFollow (t .count) numbers (t .highest .0)
     → header && addressee && number && leb (t .highest .0) mostNumber && leb (t .aru .0) (t .highest .0) && blocker && leb (t .round) mostRound && requests ≡ tokenFollows t
 unfolding tokenFollows
-token-tested t header addressee number blocker requests e₁ e₂ e₃ e₄ e₅ = rw (e₁, e₂, e₃, e₄, e₅)
+token-tested t numbers header addressee number blocker requests e₁ e₂ e₃ e₄ taken e₅ = rw (e₁, e₂, e₃, e₄, rw taken at e₅)

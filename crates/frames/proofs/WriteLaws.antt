@@ -13,7 +13,7 @@ use Rattle.words.specs.Run.{wordsBytes}
 use Rattle.words.proofs.RunLaws.{length-words-bytes}
 use Rattle.frames.specs.Layout.{contentAt, mostContent, messageSize, requestsAt, mostRequests, tokenSize}
 use Rattle.frames.specs.Message.{messageFollows, messageFixed, messageBytes}
-use Rattle.frames.specs.Token.{tokenFollows, tokenFixed, tokenBytes}
+use Rattle.frames.specs.Token.{requestNumbers, tokenFollows, tokenFixed, tokenBytes}
 use Rattle.frames.specs.Write.{WriteOutcome, writeOutcomeOf, writingOf, messageWritten, tokenWritten, framePut, messagePut, tokenPut}
 use Rattle.frames.specs.declared.refusal.Refusal.the-variants.{NoRoom, Malformed}
 use Rattle.frames.specs.declared.writer.Written.{Written}
@@ -95,16 +95,17 @@ message-taken m content out l₁ l₂ short room e₁ e₂ =
     let w₂ = stored-next (length content) content l₂ w₁ refl e₂ in
     put-taken (leb (length content) mostContent) (messageBytes m content) out size l₂ (le-leb _ _ short) w₂ room
 
-pub token-taken : (t : Token) (out l₁ l₂ : List ℕ)
+pub token-taken : (t : Token) (numbers out l₁ l₂ : List ℕ)
+    → numbers ≡ requestNumbers t
     → t .count ≤ mostRequests
     → tokenSize (t .count) ≤ length out
-    → t .count ≤ length (t .requests)
+    → t .count ≤ length (requestNumbers t)
     → l₁ ≡ sets out 0 (tokenFixed t)
-    → l₂ ≡ sets l₁ requestsAt (wordsBytes 4 (take (t .count) (t .requests)))
+    → l₂ ≡ sets l₁ requestsAt (wordsBytes 4 (take (t .count) numbers))
     → l₂ ≡ tokenPut t out
-token-taken t out l₁ l₂ short room few e₁ e₂ =
-    let requests = take (t .count) (t .requests) in
-    let long : length (wordsBytes 4 requests) ≡ 4 * t .count = rw (length-words-bytes, length-take-le (t .count) (t .requests) few) in
+token-taken t numbers out l₁ l₂ taken short room few e₁ e₂ =
+    let requests = take (t .count) (requestNumbers t) in
+    let long : length (wordsBytes 4 requests) ≡ 4 * t .count = rw (length-words-bytes, length-take-le (t .count) (requestNumbers t) few) in
     let w₁ = stored-next requestsAt (tokenFixed t) l₁ (stored-none out 0) (token-fixed-length t) e₁ in
-    let w₂ = stored-next (4 * t .count) (wordsBytes 4 requests) l₂ w₁ long e₂ in
+    let w₂ = stored-next (4 * t .count) (wordsBytes 4 requests) l₂ w₁ long (rw taken at e₂) in
     put-taken (leb (t .count) mostRequests) (tokenBytes t) out (tokenSize (t .count)) l₂ (le-leb _ _ short) w₂ room

@@ -38,7 +38,7 @@ blankToken =
       blocker = Nobody;
       round = 0;
       count = 0;
-      requests = replicate mostRequests 0;
+      requests = replicate mostRequests (record { 0 = 0 });
     }
 
 abbrev pub unreadAs : Refusal → Reading

@@ -1,7 +1,7 @@
 -- Kind 2, token. [document 01, Frames; the paper's token: token_seq, seq, aru, aru_id, rtr, and fcc of its flow control]
 use Prim.Native.Nat.{ℕ, _-_}
 use mathlib.Core.Bool.{Bool, not, _&&_, cond}
-use mathlib.Core.List.{List, _++_}
+use mathlib.Core.List.{List, _++_, map}
 use lib.ListN.{length, take, drop, replicate}
 use lib.Dec.{leb, eqb}
 use Rattle.words.specs.Word.{wordAt, wordBytes}
@@ -10,6 +10,7 @@ use Rattle.words.specs.Scan.{allWithin, allZero, distinct}
 use Rattle.frames.specs.Number.{mostNumber, isNumber, isId}
 use Rattle.frames.specs.Layout.{addresseeAt, tokenNumberAt, highestAt, aruAt, blockerAt, roundAt, countAt, requestsAt, tokenKind, mostRound, mostRequests, tokenSize}
 use Rattle.frames.specs.Header.{headerOf, headerFollows, headerBytes}
+use Rattle.frames.specs.declared.number.MessageNumber.{MessageNumber}
 use Rattle.frames.specs.declared.token.Blocker.{Blocker}
 use Rattle.frames.specs.declared.token.Blocker.the-variants.{Nobody, Member}
 use Rattle.frames.specs.declared.token.Token.{Token}
@@ -30,6 +31,13 @@ blockerFollows (Member id) aru highest = not (eqb aru highest) && isId id
 
 -- ---- the requests: the first `count` of 16 places, the others zero. A list has any length, so the test asks for the 16 too
 
+-- the numbers in the places, and places with these numbers
+unfoldable pub numbersIn : List MessageNumber → List ℕ
+numbersIn requests = map (λ n. n .0) requests
+
+unfoldable pub numbered : List ℕ → List MessageNumber
+numbered numbers = map (λ n. record { 0 = n }) numbers
+
 unfoldable pub requestsOf : ℕ → List ℕ → List ℕ
 requestsOf n s = words 4 n (drop requestsAt s) ++ replicate (mostRequests - n) 0
 
@@ -42,6 +50,10 @@ requestsFollow n requests highest =
     && allZero (drop n requests)
 
 -- ---- the token
+
+-- the numbers in its places
+abbrev pub requestNumbers : Token → List ℕ
+requestNumbers t = numbersIn (t .requests)
 
 abbrev pub requestCount : List ℕ → ℕ
 requestCount s = wordAt 2 s countAt
@@ -58,7 +70,7 @@ tokenOf s =
       blocker = blockerOf (wordAt 2 s blockerAt);
       round = wordAt 2 s roundAt;
       count = requestCount s;
-      requests = requestsOf (requestCount s) s;
+      requests = numbered (requestsOf (requestCount s) s);
     }
 
 -- 12, of a token's values
@@ -71,7 +83,7 @@ tokenFollows t =
     && leb (t .aru .0) (t .highest .0)
     && blockerFollows (t .blocker) (t .aru .0) (t .highest .0)
     && leb (t .round) mostRound
-    && requestsFollow (t .count) (t .requests) (t .highest .0)
+    && requestsFollow (t .count) (requestNumbers t) (t .highest .0)
 
 -- the bytes before the requests
 unfoldable pub tokenFixed : Token → List ℕ
@@ -86,4 +98,4 @@ tokenFixed t =
     ++ wordBytes 2 (t .count)
 
 abbrev pub tokenBytes : Token → List ℕ
-tokenBytes t = tokenFixed t ++ wordsBytes 4 (take (t .count) (t .requests))
+tokenBytes t = tokenFixed t ++ wordsBytes 4 (take (t .count) (requestNumbers t))

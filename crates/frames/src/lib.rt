@@ -37,6 +37,8 @@ pub use refusal::Refusal;
 pub use refusal::refusal_number;
 pub use token::Blocker;
 pub use token::Token;
+pub use token::numbered;
+pub use token::numbers_in;
 pub use token::token_follows;
 pub use writer::Written;
 pub use writer::put_message;

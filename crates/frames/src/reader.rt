@@ -43,7 +43,7 @@ fn blank_token() -> Token
         blocker: Blocker::Nobody,
         round: 0,
         count: 0,
-        requests: [0u32; layout::MOST_REQUESTS],
+        requests: [MessageNumber(0); layout::MOST_REQUESTS],
     }
 }
 

@@ -2,7 +2,7 @@
 ghost use mathlib.Core.Path.{_≡_};
 ghost use Prim.Native.Nat.{_≤_};
 ghost use lib.ListN.{length};
-ghost use Rattle.frames.specs.Token.{blockerOf, blockerId, blockerFollows, requestsOf, requestsFollow, requestCount, tokenOf, tokenFollows};
+ghost use Rattle.frames.specs.Token.{blockerOf, blockerId, blockerFollows, numbersIn, numbered, requestsOf, requestsFollow, requestCount, tokenOf, tokenFollows};
 ghost use Rattle.frames.specs.Layout.{mostRequests, tokenSize};
 use crate::header;
 use crate::header::Header;
@@ -30,7 +30,7 @@ pub struct Token {
     pub round: u16,
     // The requests are the first `count` places; the others are 0. The paper's rtr.
     pub count: u16,
-    pub requests: [u32; layout::MOST_REQUESTS],
+    pub requests: [MessageNumber; layout::MOST_REQUESTS],
 }
 
 pub fn blocker_of(id: u16) -> Blocker
@@ -59,6 +59,32 @@ fn blocker_follows(b: Blocker, aru: u32, highest: u32) -> bool
         Blocker::Nobody => aru == highest,
         Blocker::Member(id) => (aru != highest) & number::is_id(id),
     }
+}
+
+// The numbers in a token's places.
+pub fn numbers_in(requests: [MessageNumber; layout::MOST_REQUESTS]) -> [u32; layout::MOST_REQUESTS]
+    ensures { λ r. ⌜ r ≡ numbersIn requests ⌝ }
+{
+    let mut numbers = [0u32; layout::MOST_REQUESTS];
+    let mut i = 0;
+    while i < layout::MOST_REQUESTS {
+        numbers[i] = requests[i].0;
+        i += 1;
+    }
+    numbers
+}
+
+// Places with these numbers.
+pub fn numbered(numbers: [u32; layout::MOST_REQUESTS]) -> [MessageNumber; layout::MOST_REQUESTS]
+    ensures { λ r. ⌜ r ≡ numbered numbers ⌝ }
+{
+    let mut requests = [MessageNumber(0); layout::MOST_REQUESTS];
+    let mut i = 0;
+    while i < layout::MOST_REQUESTS {
+        requests[i] = MessageNumber(numbers[i]);
+        i += 1;
+    }
+    requests
 }
 
 fn requests_of(frame: &[u8], n: u16) -> [u32; layout::MOST_REQUESTS]
@@ -97,7 +123,7 @@ pub fn token_of(frame: &[u8], n: u16) -> Token
         blocker: blocker_of(words::get_u16(frame, layout::BLOCKER_AT)),
         round: words::get_u16(frame, layout::ROUND_AT),
         count: n,
-        requests: requests_of(frame, n),
+        requests: numbered(requests_of(frame, n)),
     }
 }
 
@@ -105,7 +131,8 @@ pub fn token_of(frame: &[u8], n: u16) -> Token
 pub fn token_follows(t: Token) -> bool
     ensures { λ r. ⌜ r ≡ tokenFollows t ⌝ }
 {
-    let requests = t.requests;
+    let places = t.requests;
+    let requests = numbers_in(places);
     let asked = requests_follow(t.count, &requests, t.highest.0);
     let blocker = t.blocker;
     header::header_follows(t.header)

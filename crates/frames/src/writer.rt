@@ -94,7 +94,8 @@ fn put_token_fixed(out: &mut [u8], t: Token)
 pub fn put_token(t: Token, out: &mut [u8])
     ensures { λ _. ⌜ now (out .exit) ≡ tokenPut t (now (out .entry)) ⌝ }
 {
-    let requests = t.requests;
+    let places = t.requests;
+    let requests = token::numbers_in(places);
     let n = t.count as usize;
     if layout::MOST_REQUESTS < n {
         return;

@@ -8,7 +8,7 @@ use Rattle.words.specs.Run.{words, wordsBytes}
 use Rattle.words.specs.Scan.{every}
 use Rattle.frames.specs.Header.{headerOf, headerFollows, headerBytes}
 use Rattle.frames.specs.Message.{messageOf, messageFollows, messageFixed}
-use Rattle.frames.specs.Token.{requestsOf, requestsFollow, tokenOf, tokenFollows, tokenFixed}
+use Rattle.frames.specs.Token.{numbersIn, numbered, requestsOf, requestsFollow, tokenOf, tokenFollows, tokenFixed}
 use Rattle.frames.specs.Read.{blankToken, readMessage, readToken, readOf}
 use Rattle.frames.specs.trials.Trials.{firstBytes}
 use Rattle.record.specs.Count.{everyFrom, those, numbersAfter}
@@ -37,7 +37,7 @@ use Rattle.station.specs.trials.Trials.{calling, table}
 
 -- opens all that a row computes with
 unfoldable pub opened : List Trial → Bool
-unfolding flatten wordBytes wordOf wordAt words wordsBytes every headerOf headerFollows headerBytes messageOf messageFollows messageFixed requestsOf requestsFollow tokenOf tokenFollows tokenFixed blankToken readMessage readToken readOf firstBytes everyFrom holds heldNumbers heldWith cleared clearedFrom letGo postsFrom queued taken idsFollow foundable thisRing tokenMembers tokenPasses freshHeld membersPlaced freshLog freshTurn freshPosts fresh heldInRange numbersInRange logInRange turnInRange postsInRange sendersAreMembers resendPasses marksInOrder arusReached heldToLevel nextNotHeld contentsPadded freePlacesZero logUnusedZero postsUnusedZero turnUnusedZero logWhole turnWhole postsWhole whole firstToken founded posted resent reached levelOf raised frameWith takeWhile due delivered isHad logWithMessage resendEnded messageHeard others allowance those requests repeats unanswered newCount withSent numbersAfter newNumbers highest′ logNow setsAru aru′ blocker′ stall′ deaf safe′ missing requests′ broadcasts round′ nextIn token′ turn′ log′ rec′ written accepted coversHeld messageArrived tokenArrived arrived framesUpTo framesIn sendersTo loadedWith allPass
+unfolding flatten wordBytes wordOf wordAt words wordsBytes every headerOf headerFollows headerBytes messageOf messageFollows messageFixed numbersIn numbered requestsOf requestsFollow tokenOf tokenFollows tokenFixed blankToken readMessage readToken readOf firstBytes everyFrom holds heldNumbers heldWith cleared clearedFrom letGo postsFrom queued taken idsFollow foundable thisRing tokenMembers tokenPasses freshHeld membersPlaced freshLog freshTurn freshPosts fresh heldInRange numbersInRange logInRange turnInRange postsInRange sendersAreMembers resendPasses marksInOrder arusReached heldToLevel nextNotHeld contentsPadded freePlacesZero logUnusedZero postsUnusedZero turnUnusedZero logWhole turnWhole postsWhole whole firstToken founded posted resent reached levelOf raised frameWith takeWhile due delivered isHad logWithMessage resendEnded messageHeard others allowance those requests repeats unanswered newCount withSent numbersAfter newNumbers highest′ logNow setsAru aru′ blocker′ stall′ deaf safe′ missing requests′ broadcasts round′ nextIn token′ turn′ log′ rec′ written accepted coversHeld messageArrived tokenArrived arrived framesUpTo framesIn sendersTo loadedWith allPass
 opened rows = allPass rows
 
 calling-pass : allPass calling ≡ true

@@ -9,7 +9,7 @@ use lib.ListN.{length, drop}
 use lib.Dec.{leb}
 use Rattle.words.specs.Scan.{every}
 use Rattle.frames.specs.Layout.{shortestToken}
-use Rattle.frames.specs.Token.{requestsFollow, tokenFollows, tokenBytes}
+use Rattle.frames.specs.Token.{numbersIn, requestsFollow, tokenFollows, tokenBytes}
 use Rattle.frames.specs.Write.{writingOf, tokenPut}
 use Rattle.frames.proofs.Facts.{part}
 use Rattle.frames.proofs.Sizes.{token-length}
@@ -77,11 +77,11 @@ foundable-when ids own ring counted follow among ranged = rw (counted, follow, a
 
 module _ (ids : List ℕ) (own ring : ℕ) (e : foundable ids own ring ≡ true) where
   pub first-follows : tokenFollows (firstToken ids ring) ≡ true
-  unfolding tokenFollows firstToken requestsFollow every
+  unfolding tokenFollows firstToken numbersIn requestsFollow every
   first-follows = rw (header-follows ids own ring e, representative-id ids own ring e)
 
 pub first-length : (ids : List ℕ) (ring : ℕ) → length (tokenBytes (firstToken ids ring)) ≡ shortestToken
-unfolding firstToken
+unfolding firstToken numbersIn
 first-length ids ring = token-length (firstToken ids ring) (omega arith)
 
 -- what the writer leaves

@@ -27,7 +27,7 @@ firstToken ids ring =
       blocker = Nobody;
       round = 0;
       count = 0;
-      requests = replicate mostRequests 0;
+      requests = replicate mostRequests (record { 0 = 0 });
     }
 
 -- `room`: is each buffer that the call lends large enough (1)? Then 3 to 6; r is the record before the call

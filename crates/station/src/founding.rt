@@ -40,7 +40,7 @@ fn first_token(ids: &[u16], ring: RingNumber) -> Token
         blocker: Blocker::Nobody,
         round: 0,
         count: 0,
-        requests: [0u32; frames::MOST_REQUESTS],
+        requests: [MessageNumber(0); frames::MOST_REQUESTS],
     }
 }
 

@@ -6,7 +6,7 @@ use Rattle.words.specs.Word.{wordBytes}
 use Rattle.words.specs.Run.{wordsBytes}
 use Rattle.words.specs.Scan.{every}
 use Rattle.frames.specs.Header.{headerBytes}
-use Rattle.frames.specs.Token.{tokenFixed}
+use Rattle.frames.specs.Token.{numbersIn, numbered, tokenFixed}
 use Rattle.record.specs.Count.{those, numbersAfter}
 use Rattle.record.specs.Held.{holds, heldWith, cleared, clearedFrom, letGo}
 use Rattle.record.specs.Posts.{postsFrom, taken}
@@ -18,5 +18,5 @@ use Rattle.visit.specs.trials.Sample.{sendersTo, allPass}
 use Rattle.visit.specs.trials.Marks.{marking}
 
 pub marks-pass : allPass marking ≡ true
-unfolding flatten wordBytes wordsBytes every headerBytes tokenFixed holds heldWith cleared clearedFrom letGo postsFrom taken freshHeld membersPlaced freshLog freshTurn freshPosts fresh reached levelOf raised frameWith takeWhile due delivered others allowance those requests repeats unanswered newCount withSent numbersAfter newNumbers highest′ logNow setsAru aru′ blocker′ stall′ safe′ missing requests′ broadcasts round′ nextIn token′ turn′ log′ rec′ sendersTo allPass
+unfolding flatten wordBytes wordsBytes every headerBytes numbersIn numbered tokenFixed holds heldWith cleared clearedFrom letGo postsFrom taken freshHeld membersPlaced freshLog freshTurn freshPosts fresh reached levelOf raised frameWith takeWhile due delivered others allowance those requests repeats unanswered newCount withSent numbersAfter newNumbers highest′ logNow setsAru aru′ blocker′ stall′ safe′ missing requests′ broadcasts round′ nextIn token′ turn′ log′ rec′ sendersTo allPass
 marks-pass = refl

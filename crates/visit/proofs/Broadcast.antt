@@ -10,6 +10,7 @@ use lib.Seq.{sets}
 use Rattle.frames.specs.Number.{mostNumber}
 use Rattle.frames.specs.Layout.{longestMessage, mostRequests}
 use Rattle.frames.specs.Header.{headerFollows}
+use Rattle.frames.specs.Token.{requestNumbers}
 use Rattle.record.specs.inner.Head.{logOn, headOf}
 use Rattle.record.specs.Held.{holds}
 use Rattle.record.specs.Posts.{waiting}
@@ -35,22 +36,22 @@ module _ (v : Visit) (a : Acceptable v) where
   pub safe-most : log v .safe .0 ≤ mostNumber
   safe-most = let marks = facts v a .log .ready .marks in omega arith
 
-  pub asked-few : length (take (v .token .count - 0) (v .token .requests)) ≤ mostRequests
-  asked-few = omega (arith, length-take (v .token .count - 0) (v .token .requests), token-good v a .requests .few)
+  pub asked-few : (numbers : List ℕ) → length (take (v .token .count - 0) numbers) ≤ mostRequests
+  asked-few numbers = omega (arith, length-take (v .token .count - 0) numbers, token-good v a .requests .few)
 
   -- ---- step 2
 
   few-listed : length (repeats v) ≤ mostRequests
   few-listed = omega (arith, few-repeats v, token-good v a .requests .few)
 
-  module _ (s : Split)
+  module _ (numbers : List ℕ) (takes : numbers ≡ requestNumbers (v .token)) (s : Split)
       (splits : s ≡ record {
-        held = listed (those (holds (log v)) (take (v .token .count - 0) (v .token .requests)));
-        rest = listed (those (λ n. not (holds (log v) n)) (take (v .token .count - 0) (v .token .requests)));
+        held = listed (those (holds (log v)) (take (v .token .count - 0) numbers));
+        rest = listed (those (λ n. not (holds (log v) n)) (take (v .token .count - 0) numbers));
       }) where
     split-is : s ≡ record { held = listed (repeats v); rest = listed (unanswered v) }
     unfolding repeats unanswered requests
-    split-is = splits ∙ rw sub-zero
+    split-is = splits ∙ rw (takes, sub-zero)
 
     split-list : listIn (s .held) ≡ repeats v
     split-list = rw split-is (list-of-listed (repeats v))

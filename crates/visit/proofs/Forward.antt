@@ -11,7 +11,7 @@ use lib.Dec.{ltb, eqb}
 use Rattle.words.specs.Scan.{lacks}
 use Rattle.frames.specs.Number.{mostNumber}
 use Rattle.frames.specs.Layout.{mostRound, mostRequests, longestToken, tokenSize}
-use Rattle.frames.specs.Token.{tokenFollows, tokenBytes}
+use Rattle.frames.specs.Token.{numbered, requestNumbers, tokenFollows, tokenBytes}
 use Rattle.frames.specs.Write.{writingOf, tokenWritten, tokenPut}
 use Rattle.frames.proofs.WriteLaws.{token-put}
 use Rattle.frames.specs.declared.number.MessageNumber.{MessageNumber}
@@ -52,8 +52,8 @@ module _ (v : Visit) (a : Acceptable v) where
   few-unanswered : length (unanswered v) ≤ mostRequests
   unfolding unanswered requests
   few-unanswered =
-      let asked = take (v .token .count) (v .token .requests) in
-      omega (arith, those-length (λ n. not (holds (log v) n)) asked, length-take (v .token .count) (v .token .requests), token-good v a .requests .few)
+      let asked = take (v .token .count) (requestNumbers (v .token)) in
+      omega (arith, those-length (λ n. not (holds (log v) n)) asked, length-take (v .token .count) (requestNumbers (v .token)), token-good v a .requests .few)
 
   -- ---- fields of the token that is written
 
@@ -140,13 +140,14 @@ module _ (v : Visit) (a : Acceptable v) where
     pub round-fits : (n : ℕ) → n ≡ v .token .round - turn v .broadcast → n + b .count ≤ 100000
     round-fits n e = omega (arith, sent-count, broadcasts-fit, token-good v a .round)
 
-    pub token-made : (header : Header) (addressee others-count round : ℕ) (r : Reach) (asked : Requests)
+    pub token-made : (header : Header) (addressee others-count round : ℕ) (r : Reach) (asked : Requests) (places : List MessageNumber)
         → header ≡ ringHeader (log v)
         → addressee ≡ nextMember (take (log v .count - 0) (log v .members)) (own v)
         → others-count ≡ v .token .round - turn v .broadcast
         → round ≡ min (others-count + b .count) mostRound
         → r ≡ reachOf v
         → asked ≡ listed (requests′ v)
+        → places ≡ numbered (asked .numbers)
         → record {
           header = header;
           addressee = addressee;
@@ -156,12 +157,12 @@ module _ (v : Visit) (a : Acceptable v) where
           blocker = r .blocker;
           round = round;
           count = asked .count;
-          requests = asked .numbers;
+          requests = places;
         }
         ≡ token′ v
     unfolding token′ reachOf listed round′ others
-    token-made header addressee others-count round r asked h d o n e f =
-        rw (h, d, n, o, sent-count, sent-highest, e, f, sub-zero)
+    token-made header addressee others-count round r asked places h d o n e f p =
+        rw (h, d, n, o, sent-count, sent-highest, e, p, f, sub-zero)
 
   module _ (token : Token) (is : token ≡ token′ v) where
     pub size-fits : (size : ℕ) → size ≡ tokenSize (token .count) → size ≤ longestToken

@@ -10,7 +10,7 @@ use lib.Dec.{leb}
 use lib.Seq.{take-at, drop-at}
 use Rattle.words.specs.Scan.{allWithin, lacks, distinct}
 use Rattle.frames.specs.Layout.{mostRequests}
-use Rattle.frames.specs.Token.{requestsFollow, tokenFollows}
+use Rattle.frames.specs.Token.{requestNumbers, requestsFollow, tokenFollows}
 use Rattle.frames.proofs.Facts.{part}
 use Rattle.record.specs.Size.{mostHeld}
 use Rattle.record.specs.Held.{holds}
@@ -49,9 +49,9 @@ padded-follow xs highest few known once =
 -- ---- the requests of a visit
 
 module _ (v : Visit) (a : Acceptable v) where
-  requests-good : requestsFollow (v .token .count) (v .token .requests) (v .token .highest .0) ≡ true
+  requests-good : requestsFollow (v .token .count) (requestNumbers (v .token)) (v .token .highest .0) ≡ true
   unfolding tokenFollows
-  requests-good = part (a .follows) (λ (f : requestsFollow (v .token .count) (v .token .requests) (v .token .highest .0) ≡ false). simp (f, and-false))
+  requests-good = part (a .follows) (λ (f : requestsFollow (v .token .count) (requestNumbers (v .token)) (v .token .highest .0) ≡ false). simp (f, and-false))
 
   pub requests-known : Each (Between 0 (v .token .highest .0)) (requests v)
   unfolding requests
@@ -66,7 +66,7 @@ module _ (v : Visit) (a : Acceptable v) where
 
   pub requests-once : Distinct (requests v)
   unfolding requests requestsFollow
-  requests-once = of-distinct (requests v) (part requests-good (λ (f : distinct (take (v .token .count) (v .token .requests)) ≡ false). simp (f, and-false)))
+  requests-once = of-distinct (requests v) (part requests-good (λ (f : distinct (take (v .token .count) (requestNumbers (v .token))) ≡ false). simp (f, and-false)))
 
   unanswered-known : Each (Between 0 (highest′ v)) (unanswered v)
   unfolding unanswered highest′

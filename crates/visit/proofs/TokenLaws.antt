@@ -14,6 +14,7 @@ use Rattle.frames.specs.Token.{blockerFollows, tokenFollows, tokenBytes}
 use Rattle.frames.specs.Read.{readOf, aToken}
 use Rattle.frames.specs.declared.token.Blocker.{Blocker}
 use Rattle.frames.specs.declared.token.Blocker.the-variants.{Nobody, Member}
+use Rattle.frames.proofs.NumberedLaws.{numbers-back}
 use Rattle.frames.proofs.Facts.{part}
 use Rattle.frames.proofs.Restored.{token-restored}
 use Rattle.frames.proofs.Sizes.{token-length}
@@ -123,6 +124,7 @@ module _ (v : Visit) (a : Acceptable v) where
   unfolding tokenFollows token′
   token-follows =
       rw (
+        numbers-back,
         ring-header (v .rec) (facts v a),
         member-id (v .rec) (facts v a) (nextMember (ids (log v)) (own v)) next-good,
         number-next,
@@ -154,7 +156,7 @@ module _ (v : Visit) (a : Acceptable v) where
   unfolding token′
   token-long =
       let pad : List ℕ = replicate (mostRequests - length (requests′ v)) 0 in
-      token-length (token′ v) (omega (arith, length-append (requests′ v) pad))
+      token-length (token′ v) (rw numbers-back (omega (arith, length-append (requests′ v) pad)))
 
   pub token-short : length (tokenBytes (token′ v)) ≤ longestToken
   token-short = omega (arith, token-long, few-requests v a)

@@ -12,6 +12,7 @@ use lib.Seq.{length-take-le}
 use Rattle.words.specs.Scan.{allWithin}
 use Rattle.frames.specs.Number.{mostNumber}
 use Rattle.frames.specs.Layout.{mostContent, mostRound}
+use Rattle.frames.specs.Token.{requestNumbers}
 use Rattle.frames.proofs.Facts.{part, TokenFacts, token-facts}
 use Rattle.record.specs.Size.{mostHeld, mostBroadcasts}
 use Rattle.record.specs.Held.{holds, heldNumbers, logWith}
@@ -64,8 +65,8 @@ module _ (v : Visit) where
   pub few-repeats : length (repeats v) ≤ v .token .count
   unfolding repeats requests
   few-repeats =
-      let h = those-length (holds (log v)) (take (v .token .count) (v .token .requests)) in
-      let k = length-take (v .token .count) (v .token .requests) in
+      let h = those-length (holds (log v)) (take (v .token .count) (requestNumbers (v .token))) in
+      let k = length-take (v .token .count) (requestNumbers (v .token)) in
       omega arith
 
   pub round-most : round′ v ≤ mostRound

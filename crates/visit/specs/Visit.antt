@@ -9,7 +9,7 @@ use lib.Dec.{ltb, eqb}
 use Rattle.words.specs.Scan.{lacks}
 use Rattle.frames.specs.Number.{mostNumber}
 use Rattle.frames.specs.Layout.{mostRound, mostRequests, longestToken}
-use Rattle.frames.specs.Token.{tokenBytes}
+use Rattle.frames.specs.Token.{numbered, requestNumbers, tokenBytes}
 use Rattle.frames.specs.declared.token.Blocker.{Blocker}
 use Rattle.frames.specs.declared.token.Blocker.the-variants.{Nobody, Member}
 use Rattle.frames.specs.declared.token.Token.{Token}
@@ -64,7 +64,7 @@ allowance v = min mostNew (mostInRound - others v)
 -- ---- 2. Requests [rtr] whose message is held are broadcast, and struck off
 
 unfoldable pub requests : Visit → List ℕ
-requests v = take (v .token .count) (v .token .requests)
+requests v = take (v .token .count) (requestNumbers (v .token))
 
 unfoldable pub repeats : Visit → List ℕ
 repeats v = those (holds (log v)) (requests v)
@@ -192,7 +192,7 @@ token′ v =
       blocker = blocker′ v;
       round = round′ v;
       count = length (requests′ v);
-      requests = requests′ v ++ replicate (mostRequests - length (requests′ v)) 0;
+      requests = numbered (requests′ v ++ replicate (mostRequests - length (requests′ v)) 0);
     }
 
 -- its number is remembered [my_token_seq], and it may be resent. The record lists the aru forwarded before this one too; no step reads it

@@ -65,7 +65,8 @@ pub fn broadcast(h: Head, s: &[u8], t: Token, out: &mut [u8]) -> Sent
         × (now (out .exit) ≡ sets (now (out .entry)) 0
         (joined (repeatFrames (visit (recordIn h (now (s .entry))) t)))) ⌝ }
 {
-    let requests = t.requests;
+    let places = t.requests;
+    let requests = frames::numbers_in(places);
     let asked = t.count as usize;
     let split = requests::split_requests(h.log, &requests[0..asked]);
     let repeats = split.held;

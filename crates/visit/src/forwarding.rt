@@ -52,6 +52,7 @@ fn token_after(h: Head, s: &[u8], t: Token, b: Sent, reach: Reach, requests: Req
     let aru = reach.aru;
     let blocker = reach.blocker;
     let numbers = requests.numbers;
+    let places = frames::numbered(numbers);
     Token {
         header: held_frames::ring_header(h.log),
         addressee: circulation::next_member(&members[0..n], h.own),
@@ -61,7 +62,7 @@ fn token_after(h: Head, s: &[u8], t: Token, b: Sent, reach: Reach, requests: Req
         blocker,
         round: flow::round_after(flow::others(t.round, h.turn.broadcast), b.count),
         count: requests.count,
-        requests: numbers,
+        requests: places,
     }
 }
 

@@ -6,7 +6,7 @@ use lib.ListN.{length, set, take, replicate}
 use lib.Dec.{eqb}
 use Rattle.frames.specs.Layout.{mostRequests}
 use Rattle.frames.specs.Message.{messageBytes}
-use Rattle.frames.specs.Token.{tokenBytes}
+use Rattle.frames.specs.Token.{numbered, tokenBytes}
 use Rattle.frames.specs.Read.{answerNumber, readOf}
 use Rattle.frames.specs.Write.{Writing, messageWritten, tokenWritten}
 use Rattle.frames.specs.declared.header.Header.{Header}
@@ -76,7 +76,7 @@ tokenWith ring n highest aru blocker round count requests =
       blocker = blocker;
       round = round;
       count = count;
-      requests = requests ++ replicate (mostRequests - length requests) 0;
+      requests = numbered (requests ++ replicate (mostRequests - length requests) 0);
     }
 
 -- a token of ring 4 and number 1 with these requests: highest, aru, blocker, round count, requests

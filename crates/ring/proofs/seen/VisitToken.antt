@@ -12,7 +12,7 @@ use lib.ListN.{length, getD, take, replicate, length-append}
 use lib.Seq.{take-append-seam}
 use Rattle.words.specs.Run.{wordsBytes}
 use Rattle.frames.specs.Layout.{longestToken}
-use Rattle.frames.specs.Token.{tokenFixed, tokenBytes}
+use Rattle.frames.specs.Token.{requestNumbers, tokenFixed, tokenBytes}
 use Rattle.frames.specs.declared.token.Token.{Token}
 use Rattle.frames.specs.declared.reader.Reading.{Reading}
 use Rattle.frames.proofs.Sizes.{token-fixed-length}
@@ -36,7 +36,7 @@ next-same first (x ∷ members) own = rw (next-same first members own)
 -- ---- a token's bytes are some
 
 pub token-some : (t : Token) → length (tokenBytes t) ≢ 0
-token-some t e = omega (arith, length-append (tokenFixed t) (wordsBytes 4 (take (t .count) (t .requests))), token-fixed-length t)
+token-some t e = omega (arith, length-append (tokenFixed t) (wordsBytes 4 (take (t .count) (requestNumbers t))), token-fixed-length t)
 
 token-same : (number number′ addressee addressee′ highest highest′ aru aru′ : ℕ) (blocker blocker′ : Option ℕ) (text : List ℕ)
     → number ≡ number′

@@ -3,7 +3,7 @@ use Prim.Native.Nat.{ℕ, zero, suc, _-_}
 use mathlib.Core.List.{List, [], _∷_}
 use lib.ListN.{length, getD, take, replicate}
 use Rattle.frames.specs.Message.{messageBytes}
-use Rattle.frames.specs.Token.{tokenBytes}
+use Rattle.frames.specs.Token.{requestNumbers, tokenBytes}
 use Rattle.frames.specs.Read.{readOf}
 use Rattle.frames.specs.trials.Trials.{header}
 use Rattle.frames.specs.declared.token.Blocker.{Blocker}
@@ -71,7 +71,7 @@ abbrev pub tokenLeft : Reply → Token
 tokenLeft reply = readOf (frameAt reply (framesCount reply - 1)) .token
 
 abbrev pub requestsLeft : Reply → List ℕ
-requestsLeft reply = take (tokenLeft reply .count) (tokenLeft reply .requests)
+requestsLeft reply = take (tokenLeft reply .count) (requestNumbers (tokenLeft reply))
 
 -- how many frames, the token's highest and round count, the posts that still wait
 abbrev pub countsLeft : Reply → List ℕ

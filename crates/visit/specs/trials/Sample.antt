@@ -7,6 +7,7 @@ use lib.Dec.{eqb}
 use Rattle.frames.specs.Layout.{mostRequests}
 use Rattle.frames.specs.trials.Trials.{same, header}
 use Rattle.frames.specs.declared.token.Blocker.{Blocker}
+use Rattle.frames.specs.Token.{numbered}
 use Rattle.frames.specs.declared.token.Token.{Token}
 use Rattle.record.specs.Held.{placeOf, logWith}
 use Rattle.record.specs.Fresh.{freshHeld, freshTurn, fresh}
@@ -108,5 +109,5 @@ tokenWith ring addressee n highest aru blocker round requests =
       blocker = blocker;
       round = round;
       count = length requests;
-      requests = requests ++ replicate (mostRequests - length requests) 0;
+      requests = numbered (requests ++ replicate (mostRequests - length requests) 0);
     }

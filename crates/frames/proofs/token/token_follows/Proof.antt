@@ -5,15 +5,16 @@ use Rattle.frames.proofs.token.token_follows.Tie as tie
 
 returns : tie.Need-returns
 returns c =
-    token-tested _ _ _ _ _ _
+    token-tested _ _ _ _ _ _ _
     (c .before .before .before .before .before .before .header-follows .ensures)
     (c .before .before .before .before .before .is-id .ensures)
     (c .before .before .before .before .is-number .ensures)
     (c .before .blocker-follows .ensures)
+    (c .before .before .before .before .before .before .before .before .before .numbers-in .ensures)
     (c .before .before .before .before .before .before .before .requests-follow .ensures)
 
 pub token-follows-spec : {M : Type 1} → statement M
 token-follows-spec =
     tie.close
-    (tie.spec (λ c. search needs) (λ c κs. search needs) (λ c κs. search needs) (λ c κs. search needs)
+    (tie.spec (λ c κs. search needs) (λ c. search needs) (λ c κs. search needs) (λ c κs. search needs) (λ c κs. search needs)
     (λ c κs. search needs) (λ c κs. search needs) returns)

@@ -5,7 +5,7 @@ use native.Mathlib.Omega.{arith}
 use lib.ListN.{length}
 use borrow.Author.Needs.{needs}
 use borrow.Author.Tests.{not-true, not-false}
-use Rattle.frames.specs.Token.{tokenFollows}
+use Rattle.frames.specs.Token.{requestNumbers, tokenFollows}
 use Rattle.frames.proofs.Facts.{token-facts}
 use Rattle.frames.proofs.Sizes.{token-length}
 use Rattle.frames.proofs.WriteLaws.{write-malformed, write-roomless, write-counted, token-put}
@@ -15,7 +15,7 @@ use Rattle.frames.proofs.writer.write_token.Tie as tie
 follows : (c : tie.Else1) → tokenFollows (c .before .before .before .args .t) ≡ true
 follows c = sym (c .before .token-follows .ensures) ∙ not-false _ (c .if1 .left)
 
-few : (c : tie.Else1) → c .before .before .before .args .t .count ≤ length (c .before .before .before .args .t .requests)
+few : (c : tie.Else1) → c .before .before .before .args .t .count ≤ length (requestNumbers (c .before .before .before .args .t))
 few c = let facts = token-facts _ (follows c) .requests in omega (arith, facts .few, facts .places)
 
 returns : tie.Need-returns

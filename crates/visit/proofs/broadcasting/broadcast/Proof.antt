@@ -14,54 +14,54 @@ the-visit c = visit (recordIn (c .args .h) (c .args .s .now)) (c .args .t)
 
 part-split-requests-end : tie.Need-part-split-requests-end
 part-split-requests-end c =
-    let start = c .before .before .before .before .before in
+    let start = c .before .before .before .before .before .before in
     let asked = token-good (the-visit start) (start .pre .0) .requests in
-    omega (arith, asked .places, asked .few)
+    omega (arith, asked .few)
 
 split-requests-requires : tie.Need-split-requests-requires
 split-requests-requires c κs =
-    let start = c .before .before .before .before .before .before in
-    (safe-most (the-visit start) (start .pre .0), asked-few (the-visit start) (start .pre .0))
+    let start = c .before .before .before .before .before .before .before in
+    (safe-most (the-visit start) (start .pre .0), asked-few (the-visit start) (start .pre .0) _)
 
 new-count-requires : tie.Need-new-count-requires
 new-count-requires c κs =
-    let start = c .before .before .before .before .before .before .before .before .before .before in
+    let start = c .before .before .before .before .before .before .before .before .before .before .before in
     let v = the-visit start in
-    (split-count v (start .pre .0) _ (c .before .before .before .split-requests .ensures (contentsIn (start .args .s .now) logAt)), safe-most v (start .pre .0))
+    (split-count v (start .pre .0) _ (c .before .before .before .before .before .before .before .numbers-in .ensures) _ (c .before .before .before .split-requests .ensures (contentsIn (start .args .s .now) logAt)), safe-most v (start .pre .0))
 
 hold-new-requires : tie.Need-hold-new-requires
 hold-new-requires c κs =
-    let start = c .before .before .before .before .before .before .before .before .before .before .before in
-    hold-allowed (the-visit start) (start .pre .0) _ (c .before .before .before .before .split-requests .ensures (contentsIn (start .args .s .now) logAt)) _ (c .new-count .ensures)
+    let start = c .before .before .before .before .before .before .before .before .before .before .before .before in
+    hold-allowed (the-visit start) (start .pre .0) _ (c .before .before .before .before .before .before .before .before .numbers-in .ensures) _ (c .before .before .before .before .split-requests .ensures (contentsIn (start .args .s .now) logAt)) _ (c .new-count .ensures)
 
 raise-requires : tie.Need-raise-requires
 raise-requires c κs =
-    let start = c .before .before .before .before .before .before .before .before .before .before .before .before in
-    level-ready (the-visit start) (start .pre .0) _ (c .before .before .before .before .before .split-requests .ensures (contentsIn (start .args .s .now) logAt)) _ (c .before .new-count .ensures) _ (c .hold-new .ensures)
+    let start = c .before .before .before .before .before .before .before .before .before .before .before .before .before in
+    level-ready (the-visit start) (start .pre .0) _ (c .before .before .before .before .before .before .before .before .before .numbers-in .ensures) _ (c .before .before .before .before .before .split-requests .ensures (contentsIn (start .args .s .now) logAt)) _ (c .before .new-count .ensures) _ (c .hold-new .ensures)
 
 contents-in-requires : tie.Need-contents-in-requires
-contents-in-requires c κs = c .before .before .before .before .before .before .before .before .before .before .before .before .before .pre .1
+contents-in-requires c κs = c .before .before .before .before .before .before .before .before .before .before .before .before .before .before .pre .1
 
 put-repeats-requires : tie.Need-put-repeats-requires
 put-repeats-requires c κs =
-    let start = c .before .before .before .before .before .before .before .before .before .before .before .before .before .before .before in
+    let start = c .before .before .before .before .before .before .before .before .before .before .before .before .before .before .before .before in
     rw (c .before .contents-in .ensures)
-    (repeats-ready (the-visit start) (start .pre .0) _ (c .before .before .before .before .before .before .before .before .split-requests .ensures (contentsIn (start .args .s .now) logAt)) _ (c .before .before .before .before .new-count .ensures) _ (c .before .before .before .hold-new .ensures) _ (c .before .before .raise .ensures) _ (start .pre .2))
+    (repeats-ready (the-visit start) (start .pre .0) _ (c .before .before .before .before .before .before .before .before .before .before .before .before .numbers-in .ensures) _ (c .before .before .before .before .before .before .before .before .split-requests .ensures (contentsIn (start .args .s .now) logAt)) _ (c .before .before .before .before .new-count .ensures) _ (c .before .before .before .hold-new .ensures) _ (c .before .before .raise .ensures) _ (start .pre .2))
 
-add-t23 : tie.Need-add-t23
-add-t23 c =
-    let start = c .before .before .before .before .before .before .before .before .before .before .before .before .before .before .before .before .before .before in
-    omega (arith, sent-few (the-visit start) (start .pre .0) _ (c .before .before .before .before .before .before .before .before .before .before .before .split-requests .ensures (contentsIn (start .args .s .now) logAt)) _ (c .before .before .before .before .before .before .before .new-count .ensures))
+add-t25 : tie.Need-add-t25
+add-t25 c =
+    let start = c .before .before .before .before .before .before .before .before .before .before .before .before .before .before .before .before .before .before .before in
+    omega (arith, sent-few (the-visit start) (start .pre .0) _ (c .before .before .before .before .before .before .before .before .before .before .before .before .before .before .before .numbers-in .ensures) _ (c .before .before .before .before .before .before .before .before .before .before .before .split-requests .ensures (contentsIn (start .args .s .now) logAt)) _ (c .before .before .before .before .before .before .before .new-count .ensures))
 
 returns : tie.Need-returns
 returns c =
-    let start = c .before .before .before .before .before .before .before .before .before .before .before .before .before .before .before .before .before .before in
-    all-sent (the-visit start) (start .pre .0) _ (c .before .before .before .before .before .before .before .before .before .before .before .split-requests .ensures (contentsIn (start .args .s .now) logAt)) _ (c .before .before .before .before .before .before .before .new-count .ensures) _ (c .before .before .before .before .before .before .hold-new .ensures) _ (c .before .before .before .before .before .raise .ensures) _ _ _
+    let start = c .before .before .before .before .before .before .before .before .before .before .before .before .before .before .before .before .before .before .before in
+    all-sent (the-visit start) (start .pre .0) _ (c .before .before .before .before .before .before .before .before .before .before .before .before .before .before .before .numbers-in .ensures) _ (c .before .before .before .before .before .before .before .before .before .before .before .split-requests .ensures (contentsIn (start .args .s .now) logAt)) _ (c .before .before .before .before .before .before .before .new-count .ensures) _ (c .before .before .before .before .before .before .hold-new .ensures) _ (c .before .before .before .before .before .raise .ensures) _ _ _
     (rw (c .before .before .before .before .contents-in .ensures) at (c .before .before .put-repeats .ensures))
 
 pub broadcast-spec : {M : Type 1} → statement M
 broadcast-spec =
     tie.close
-    (tie.spec (λ c. search needs) (λ c. search needs) (λ c. search needs) part-split-requests-end split-requests-requires
-    (λ c. search needs) new-count-requires hold-new-requires raise-requires contents-in-requires put-repeats-requires add-t23
+    (tie.spec (λ c κs. search needs) (λ c. search needs) (λ c. search needs) (λ c. search needs) part-split-requests-end split-requests-requires
+    (λ c. search needs) new-count-requires hold-new-requires raise-requires contents-in-requires put-repeats-requires add-t25
     (λ c. search needs) returns)
