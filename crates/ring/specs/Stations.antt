@@ -85,22 +85,22 @@ isMessage (IsMessage m) = true
 isMessage IsToken = false
 
 -- what a place has come to: the bytes of its record, and what it has handed out, joined
-pub record Heard : Type 0 where
+pub record HeardThere : Type 0 where
   pub bytes : List ℕ
   pub handed : List ℕ
 
 -- a message more; `room` is how long the buffer for deliveries is in all
-abbrev pub hearsMessage : ℕ → Heard → List ℕ → Heard
+abbrev pub hearsMessage : ℕ → HeardThere → List ℕ → HeardThere
 hearsMessage room h frame =
     let reply = arriveOver (h .bytes) frame mostFrames (room - length (h .handed)) in
     record { bytes = stationAfter reply (h .bytes); handed = h .handed ++ reply .deliveries }
 
 -- a frame more; a token isn't for all
-abbrev pub hears : ℕ → Heard → List ℕ → Heard
+abbrev pub hears : ℕ → HeardThere → List ℕ → HeardThere
 hears room h frame = cond (isMessage (readOf frame .answer)) (hearsMessage room h frame) h
 
 -- a place before a frame reaches it, its deliveries so far in the first `at` bytes of a buffer
-abbrev pub heardSoFar : ℕ → List ℕ → List ℕ → ℕ → Heard
+abbrev pub heardSoFar : ℕ → List ℕ → List ℕ → ℕ → HeardThere
 heardSoFar p records deliveries at = record { bytes = recordAt p records; handed = take at deliveries }
 
 -- the records and the buffer after it, and the position after what was handed out
@@ -109,11 +109,11 @@ pub record Reached (p : ℕ) (records frame deliveries : List ℕ) (at after : �
   pub left : records′ ≡ withRecord p (hears (length deliveries) (heardSoFar p records deliveries at) frame .bytes) records
   pub joined : deliveries′ ≡ followedBy (hears (length deliveries) (heardSoFar p records deliveries at) frame .handed) deliveries
 
-unfoldable pub hearsAll : ℕ → Heard → List (List ℕ) → Heard
+unfoldable pub hearsAll : ℕ → HeardThere → List (List ℕ) → HeardThere
 hearsAll room h [] = h
 hearsAll room h (frame ∷ frames) = hearsAll room (hears room h frame) frames
 
-unfoldable pub heardAt : ℕ → List ℕ → List ℕ → ℕ → Heard
+unfoldable pub heardAt : ℕ → List ℕ → List ℕ → ℕ → HeardThere
 heardAt p records written room = hearsAll room (record { bytes = recordAt p records; handed = [] }) (framesIn written)
 
 -- ---- the addressee's place

@@ -13,7 +13,7 @@ use Rattle.station.specs.Reply.{Reply}
 use Rattle.visit.specs.Output.{followedBy, mostFrames}
 use Rattle.visit.specs.Within.{framesIn}
 use Rattle.station.specs.declared.answer.Outcome.{Outcome}
-use Rattle.ring.specs.Stations.{recordAt, withRecord, recordsAfter, arrivedAt, isMessage, Heard, hears, hearsMessage, heardSoFar, Reached, hearsAll, heardAt}
+use Rattle.ring.specs.Stations.{recordAt, withRecord, recordsAfter, arrivedAt, isMessage, HeardThere, hears, hearsMessage, heardSoFar, Reached, hearsAll, heardAt}
 use Rattle.ring.proofs.places.PlaceLaws.{with-same, at-with, with-with}
 use Rattle.ring.proofs.places.CutLaws.{cut-at, cut-none}
 use Rattle.ring.proofs.places.ArriveLaws.{counted}
@@ -84,7 +84,7 @@ module _ (p : ℕ) (records frame deliveries : List ℕ) (at : ℕ) (inside : at
         }
 
 -- what was handed out stays
-grows : (room : ℕ) (h : Heard) (frame : List ℕ) → length (h .handed) ≤ length (hears room h frame .handed)
+grows : (room : ℕ) (h : HeardThere) (frame : List ℕ) → length (h .handed) ≤ length (hears room h frame .handed)
 grows room h frame = go (isMessage (readOf frame .answer))
   where
     go : (b : Bool) → length (h .handed) ≤ length (cond b (hearsMessage room h frame) h .handed)
@@ -156,7 +156,7 @@ module _ (p : ℕ) (records₀ written deliveries₀ : List ℕ) where
               ∙ ap (λ (d : List ℕ). followedBy (h₁ .handed) d) (h .joined)
               ∙ joined-again (take at deliveries) (h₁ .handed) deliveries₀ (grows (length deliveries) h₀ (take k (drop from written)))
               ∙ sym (ap (λ (b : List ℕ). followedBy b deliveries₀) handed);
-          rest = ap (λ (x : Heard). hearsAll (length deliveries₀) x (framesIn (drop (from + k) written))) state
+          rest = ap (λ (x : HeardThere). hearsAll (length deliveries₀) x (framesIn (drop (from + k) written))) state
               ∙ ap (λ (n : ℕ). hearsAll (length deliveries₀) (hears n h₀ (take k (drop from written))) (framesIn (drop (from + k) written))) (h .size)
               ∙ rw cuts at (h .rest);
         }
