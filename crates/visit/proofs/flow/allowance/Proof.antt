@@ -4,10 +4,10 @@ use Rattle.visit.proofs.flow.allowance.Statement.{statement}
 use Rattle.visit.proofs.flow.allowance.Tie as tie
 
 returns : tie.Need-returns
-returns c = omega (arith, c .before .others .ensures, c .if1 .taken)
+returns c = omega arith
 
 returns-2 : tie.Need-returns-2
-returns-2 c = rw (c .smaller .ensures, c .before .before .others .ensures)
+returns-2 c = omega arith
 
 pub allowance-spec : {M : Type 1} → statement M
 allowance-spec = tie.close (tie.spec (λ c κs. search needs) returns (λ c. search needs) (λ c κs. search needs) returns-2)
