@@ -61,7 +61,7 @@ fn blocker_follows(b: Blocker, aru: u32, highest: u32) -> bool
     }
 }
 
-// The numbers in a token's places.
+// The numbers in a token's places. Ruled out: the last place left 0; two places changed over.
 pub fn numbers_in(requests: [MessageNumber; layout::MOST_REQUESTS]) -> [u32; layout::MOST_REQUESTS]
     ensures { λ r. ⌜ r ≡ numbersIn requests ⌝ }
 {
@@ -74,7 +74,7 @@ pub fn numbers_in(requests: [MessageNumber; layout::MOST_REQUESTS]) -> [u32; lay
     numbers
 }
 
-// Places with these numbers.
+// Places with these numbers. Ruled out: a place that keeps 0; one number in every place.
 pub fn numbered(numbers: [u32; layout::MOST_REQUESTS]) -> [MessageNumber; layout::MOST_REQUESTS]
     ensures { λ r. ⌜ r ≡ numbered numbers ⌝ }
 {
