@@ -15,7 +15,7 @@ use Rattle.station.specs.Resend.{resent}
 use Rattle.station.specs.Arrive.{arrived}
 use Rattle.visit.specs.trials.Sample.{Trial, row, yes, rowOf, members, station, reachedWith, reachedTo, safeTo, turnWith, level7, level10}
 use Rattle.visit.specs.trials.Marks.{marking}
-use Rattle.station.specs.trials.Sample.{refusal, outcome, bytes, loadedWith, messageFrame, tokenFrame, arrives, heard, visited, framesCount, frameAt, tokenLeft, requestsLeft, countsLeft, stallLeft, marks}
+use Rattle.station.specs.trials.Sample.{refusal, outcome, bytes, loadedWith, messageFrame, tokenFrame, arrives, heard, visited, framesCount, frameAt, tokenLeft, aruLeft, requestsLeft, countsLeft, stallLeft, marks}
 
 abbrev pub level31 : Record
 level31 = reachedTo 31
@@ -68,6 +68,19 @@ messages =
 
 -- ---- a token is accepted
 
+-- aru and blocker, in the token that is written
+abbrev pub arus : List Trial
+arus =
+    -- * highest 10, aru 10, nobody; level 7: leaves 7, blocker 7
+    rowOf (aruLeft (visited level7 4 10 10 Nobody 0 [])) (7 ∷ 7 ∷ [])
+    -- * highest 10, aru 5, blocker 9; level 7: leaves 5, blocker 9
+    ∷ rowOf (aruLeft (visited level7 4 10 5 (Member 9) 0 [])) (5 ∷ 9 ∷ [])
+    -- * highest 10, aru 5, blocker 7; level 10: leaves 10, nobody
+    ∷ rowOf (aruLeft (visited level10 4 10 5 (Member 7) 0 [])) (10 ∷ 0 ∷ [])
+    -- the level below the aru, with another as blocker: leaves the level, blocker 7
+    ∷ rowOf (aruLeft (visited level7 4 10 9 (Member 9) 0 [])) (7 ∷ 7 ∷ [])
+    ∷ []
+
 -- the station has forwarded 10, in token 5
 abbrev pub forwarded : Reply
 forwarded = visited level10 4 10 10 Nobody 0 []
@@ -88,8 +101,11 @@ forwarding =
     ∷ row (tokenLeft (arrives (fresh members 9 4) (tokenFrame 4 9 4 0 0 Nobody 0 [])) .addressee) 3
     -- after one forwarding nothing is safe; all is delivered
     ∷ rowOf (marks forwarded) (10 ∷ 0 ∷ 10 ∷ [])
-    -- everything up to the safe mark is let go
+    -- * forwarded 10, then 7: safe mark 7
     ∷ rowOf (marks then7) (10 ∷ 7 ∷ 10 ∷ [])
+    -- it never falls
+    ∷ rowOf (marks (visited (then7 .rec) 10 10 5 (Member 9) 0 [])) (10 ∷ 7 ∷ 10 ∷ [])
+    -- everything up to it is let go
     ∷ row (yes (holds (then7 .rec .log) 7)) 0
     ∷ row (yes (holds (then7 .rec .log) 8)) 1
     ∷ []
@@ -274,7 +290,7 @@ abbrev pub hearing : List Trial
 hearing = samples ++ messages ++ delivering
 
 abbrev pub visiting : List Trial
-visiting = marking ++ forwarding ++ flow ++ contents ++ stalling ++ requesting
+visiting = marking ++ arus ++ forwarding ++ flow ++ contents ++ stalling ++ requesting
 
 abbrev pub entering : List Trial
 entering = door ++ resendings

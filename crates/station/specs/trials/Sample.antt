@@ -3,7 +3,7 @@ use Prim.Native.Nat.{ℕ, zero, suc, _-_}
 use mathlib.Core.List.{List, [], _∷_}
 use lib.ListN.{length, getD, take, replicate}
 use Rattle.frames.specs.Message.{messageBytes}
-use Rattle.frames.specs.Token.{requestNumbers, tokenBytes}
+use Rattle.frames.specs.Token.{requestNumbers, tokenBytes, blockerId}
 use Rattle.frames.specs.Read.{readOf}
 use Rattle.frames.specs.trials.Trials.{header}
 use Rattle.frames.specs.declared.token.Blocker.{Blocker}
@@ -69,6 +69,10 @@ frameAt reply place = getD (framesIn (reply .frames)) place []
 -- the token, read from the last frame
 abbrev pub tokenLeft : Reply → Token
 tokenLeft reply = readOf (frameAt reply (framesCount reply - 1)) .token
+
+-- its aru and blocker
+abbrev pub aruLeft : Reply → List ℕ
+aruLeft reply = tokenLeft reply .aru .0 ∷ blockerId (tokenLeft reply .blocker) ∷ []
 
 abbrev pub requestsLeft : Reply → List ℕ
 requestsLeft reply = take (tokenLeft reply .count) (requestNumbers (tokenLeft reply))

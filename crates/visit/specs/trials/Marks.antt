@@ -1,4 +1,4 @@
--- Trials of steps 4 and 6; the specification's own are marked by a star. [document 01, Trials]
+-- Trials of steps 4 and 6, of the quantities alone; the table of the crate above looks at the token and the record that are left. [document 01, Trials]
 use Prim.Native.Nat.{ℕ}
 use mathlib.Core.List.{List, [], _∷_, _++_}
 use Rattle.frames.specs.Token.{blockerId}
@@ -19,11 +19,11 @@ reachLeft v = aru′ v ∷ blockerId (blocker′ v) ∷ []
 
 abbrev pub blocking : List Trial
 blocking =
-    -- * highest 10, aru 10, nobody; level 7: leaves 7, blocker 7
+    -- highest 10, aru 10, nobody; level 7: leaves 7, blocker 7
     rowOf (reachLeft (visits level7 4 10 10 Nobody)) (7 ∷ 7 ∷ [])
-    -- * highest 10, aru 5, blocker 9; level 7: leaves 5, blocker 9
+    -- highest 10, aru 5, blocker 9; level 7: leaves 5, blocker 9
     ∷ rowOf (reachLeft (visits level7 4 10 5 (Member 9))) (5 ∷ 9 ∷ [])
-    -- * highest 10, aru 5, blocker 7; level 10: leaves 10, nobody
+    -- highest 10, aru 5, blocker 7; level 10: leaves 10, nobody
     ∷ rowOf (reachLeft (visits level10 4 10 5 (Member 7))) (10 ∷ 0 ∷ [])
     -- the level below the aru, with another as blocker: leaves the level, blocker 7
     ∷ rowOf (reachLeft (visits level7 4 10 9 (Member 9))) (7 ∷ 7 ∷ [])
@@ -40,7 +40,7 @@ abbrev pub safety : List Trial
 safety =
     -- after one forwarding nothing is safe
     row (safe′ first) 0
-    -- * forwarded 10, then 7: safe mark 7
+    -- forwarded 10, then 7: safe mark 7
     ∷ row (safe′ second) 7
     -- it never falls
     ∷ row (safe′ (visits (rec′ second) 10 10 5 (Member 9))) 7
