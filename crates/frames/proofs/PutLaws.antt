@@ -1,11 +1,11 @@
 -- A frame's fixed part, stored field by field, is its bytes stored at the front.
-use Prim.Native.Nat.{ℕ, _-_}
-use mathlib.Core.Path.{_≡_}
+use Prim.Native.Nat.{ℕ, _-_, _%_}
+use mathlib.Core.Path.{_≡_, ap, _∙_}
 use mathlib.Core.List.{List}
 use lib.Seq.{sets}
 use Rattle.words.specs.Word.{wordBytes}
 use Rattle.words.proofs.StoreLaws.{stored-none, stored-next}
-use Rattle.words.proofs.WordLaws.{stored-word}
+use Rattle.words.proofs.WordLaws.{bytes-low, stored-word}
 use Rattle.frames.specs.Layout.{lengthAt, lengthSize, kindAt, ringAt, representativeAt, headerSize, messageKind, senderAt, messageNumberAt, configurationAt, serviceAt, tokenKind, tokenSize, addresseeAt, tokenNumberAt, highestAt, aruAt, blockerAt, roundAt, countAt}
 use Rattle.frames.specs.Header.{headerBytes}
 use Rattle.frames.specs.Message.{configuration, messageFixed}
@@ -16,14 +16,14 @@ use Rattle.frames.specs.declared.token.Token.{Token}
 use Rattle.frames.proofs.Sizes.{header-length}
 
 pub header-stored : (size kind : ℕ) (h : Header) (l l₁ l₂ l₃ l₄ : List ℕ)
-    → l₁ ≡ sets l lengthAt (wordBytes 2 (size - lengthSize))
+    → l₁ ≡ sets l lengthAt (wordBytes 2 ((size - lengthSize) % 65536))
     → l₂ ≡ sets l₁ kindAt (wordBytes 2 kind)
     → l₃ ≡ sets l₂ ringAt (wordBytes 4 (h .ring .0))
     → l₄ ≡ sets l₃ representativeAt (wordBytes 2 (h .representative))
     → l₄ ≡ sets l 0 (headerBytes size kind h)
 unfolding headerBytes
 header-stored size kind h l l₁ l₂ l₃ l₄ e₁ e₂ e₃ e₄ =
-    let w₁ = stored-word 2 (size - lengthSize) l₁ (stored-none l 0) e₁ in
+    let w₁ = stored-word 2 (size - lengthSize) l₁ (stored-none l 0) (e₁ ∙ ap (sets l lengthAt) (bytes-low 2 (size - lengthSize))) in
     let w₂ = stored-word 2 kind l₂ w₁ e₂ in
     let w₃ = stored-word 4 (h .ring .0) l₃ w₂ e₃ in
     let w₄ = stored-word 2 (h .representative) l₄ w₃ e₄ in

@@ -5,13 +5,12 @@ use mathlib.Core.Bool.{Bool, true, false}
 use mathlib.Core.List.{List}
 use borrow.Author.Tests.{le-leb, lt-leb}
 use native.Mathlib.Omega.{arith}
-use lib.Dec.{leb}
 use lib.ListN.{length, take}
 use lib.Seq.{sets, length-take-le}
 use Rattle.words.proofs.StoreLaws.{Stored, stored-none, stored-next, front-stored}
 use Rattle.words.specs.Run.{wordsBytes}
 use Rattle.words.proofs.RunLaws.{length-words-bytes}
-use Rattle.frames.specs.Layout.{contentAt, mostContent, messageSize, requestsAt, mostRequests, tokenSize}
+use Rattle.frames.specs.Layout.{contentAt, messageSize, requestsAt, mostRequests, tokenSize}
 use Rattle.frames.specs.Message.{messageFollows, messageFixed, messageBytes}
 use Rattle.frames.specs.Token.{requestNumbers, tokenFollows, tokenFixed, tokenBytes}
 use Rattle.frames.specs.Write.{WriteOutcome, writeOutcomeOf, writingOf, messageWritten, tokenWritten, framePut, messagePut, tokenPut}
@@ -21,7 +20,7 @@ use Rattle.frames.specs.declared.writer.Written.the-variants.{Size, Refu
 use Rattle.frames.specs.declared.message.Message.{Message}
 use Rattle.frames.specs.declared.token.Token.{Token}
 use Rattle.frames.proofs.RefusalLaws.{some-number, number-fixes}
-use Rattle.frames.proofs.Facts.{message-facts, token-facts}
+use Rattle.frames.proofs.Facts.{token-facts}
 use Rattle.frames.proofs.Sizes.{message-fixed-length, message-length, token-fixed-length, token-length}
 
 module _ (follows : Bool) (frame out : List ℕ) where
@@ -43,22 +42,27 @@ module _ (follows : Bool) (frame out : List ℕ) where
 
 -- ---- what is put without asking 12
 
-module _ (short : Bool) (frame out : List ℕ) where
-  pub put-long : short ≡ false → out ≡ framePut short frame out
+module _ (frame out : List ℕ) where
+  pub put-roomless : (n : ℕ) → length frame ≡ n → length out < n → out ≡ framePut frame out
   unfolding framePut
-  put-long long = rw long
+  put-roomless n size less = rw (size, lt-leb n (length out) less)
 
-  pub put-roomless : (n : ℕ) → short ≡ true → length frame ≡ n → length out < n → out ≡ framePut short frame out
+  put-taken : (n : ℕ) (out′ : List ℕ) → Stored out 0 frame n out′ → n ≤ length out → out′ ≡ framePut frame out
   unfolding framePut
-  put-roomless n ok size less = rw (ok, size, lt-leb n (length out) less)
+  put-taken n out′ stored room = rw (stored .size, le-leb n (length out) room) (stored .is ∙ front-stored n frame out (stored .size) room)
 
-  put-taken : (n : ℕ) (out′ : List ℕ) → short ≡ true → Stored out 0 frame n out′ → n ≤ length out → out′ ≡ framePut short frame out
-  unfolding framePut
-  put-taken n out′ ok stored room = rw (ok, stored .size, le-leb n (length out) room) (stored .is ∙ front-stored n frame out (stored .size) room)
-
-  put-written : (follows : Bool) (n : ℕ) → follows ≡ true → short ≡ true → length frame ≡ n → n ≤ length out → framePut short frame out ≡ (writingOf follows frame out) .out
+  put-written : (follows : Bool) (n : ℕ) → follows ≡ true → length frame ≡ n → n ≤ length out → framePut frame out ≡ (writingOf follows frame out) .out
   unfolding framePut writingOf
-  put-written follows n ok fits size room = rw (ok, fits, size, le-leb n (length out) room)
+  put-written follows n ok size room = rw (ok, size, le-leb n (length out) room)
+
+module _ (t : Token) (out : List ℕ) where
+  pub put-long : mostRequests < t .count → out ≡ tokenPut t out
+  unfolding tokenPut
+  put-long long = rw (lt-leb (t .count) mostRequests long)
+
+  pub put-short : t .count ≤ mostRequests → framePut (tokenBytes t) out ≡ tokenPut t out
+  unfolding tokenPut
+  put-short short = rw (le-leb (t .count) mostRequests short)
 
 -- where the values follow the layout and there is room, it is what the writer leaves
 
@@ -67,12 +71,12 @@ pub message-put : (m : Message) (content out : List ℕ)
     → messageSize (length content) ≤ length out
     → messagePut m content out ≡ (messageWritten m content out) .out
 message-put m content out ok room =
-    put-written (leb (length content) mostContent) (messageBytes m content) out (messageFollows m content) (messageSize (length content)) ok (le-leb _ _ (message-facts m content ok .short)) (message-length m content) room
+    put-written (messageBytes m content) out (messageFollows m content) (messageSize (length content)) ok (message-length m content) room
 
 pub token-put : (t : Token) (out : List ℕ) → tokenFollows t ≡ true → tokenSize (t .count) ≤ length out → tokenPut t out ≡ (tokenWritten t out) .out
 token-put t out ok room =
     let facts = token-facts t ok .requests in
-    put-written (leb (t .count) mostRequests) (tokenBytes t) out (tokenFollows t) (tokenSize (t .count)) ok (le-leb _ _ (facts .few)) (token-length t (omega (arith, facts .few, facts .places))) room
+    sym (put-short t out (facts .few)) ∙ put-written (tokenBytes t) out (tokenFollows t) (tokenSize (t .count)) ok (token-length t (omega (arith, facts .few, facts .places))) room
 
 -- the outcome fixes the answer
 pub outcome-fixes : (a b : Written) → writeOutcomeOf a ≡ writeOutcomeOf b → a ≡ b
@@ -84,16 +88,15 @@ outcome-fixes (Refused why) (Refused other) e = ap Refused (number-fixes why oth
 -- the fixed part and then the rest, stored at the front
 
 pub message-taken : (m : Message) (content out l₁ l₂ : List ℕ)
-    → length content ≤ mostContent
     → messageSize (length content) ≤ length out
     → l₁ ≡ sets out 0 (messageFixed m (messageSize (length content)))
     → l₂ ≡ sets l₁ contentAt content
     → l₂ ≡ messagePut m content out
-message-taken m content out l₁ l₂ short room e₁ e₂ =
+message-taken m content out l₁ l₂ room e₁ e₂ =
     let size = messageSize (length content) in
     let w₁ = stored-next contentAt (messageFixed m size) l₁ (stored-none out 0) (message-fixed-length m size) e₁ in
     let w₂ = stored-next (length content) content l₂ w₁ refl e₂ in
-    put-taken (leb (length content) mostContent) (messageBytes m content) out size l₂ (le-leb _ _ short) w₂ room
+    put-taken (messageBytes m content) out size l₂ w₂ room
 
 pub token-taken : (t : Token) (numbers out l₁ l₂ : List ℕ)
     → numbers ≡ requestNumbers t
@@ -108,4 +111,4 @@ token-taken t numbers out l₁ l₂ taken short room few e₁ e₂ =
     let long : length (wordsBytes 4 requests) ≡ 4 * t .count = rw (length-words-bytes, length-take-le (t .count) (requestNumbers t) few) in
     let w₁ = stored-next requestsAt (tokenFixed t) l₁ (stored-none out 0) (token-fixed-length t) e₁ in
     let w₂ = stored-next (4 * t .count) (wordsBytes 4 requests) l₂ w₁ long (rw taken at e₂) in
-    put-taken (leb (t .count) mostRequests) (tokenBytes t) out (tokenSize (t .count)) l₂ (le-leb _ _ short) w₂ room
+    put-taken (tokenBytes t) out (tokenSize (t .count)) l₂ w₂ room ∙ put-short t out short

@@ -1,10 +1,10 @@
 -- Writing a frame into a lent buffer: question 12, then 1 with the frame's own size. [document 01, Questions at the door]
 use Prim.Native.Nat.{ℕ}
-use mathlib.Core.Bool.{Bool, _&&_, cond}
+use mathlib.Core.Bool.{Bool, cond}
 use mathlib.Core.List.{List, _++_}
 use lib.ListN.{length, drop}
 use lib.Dec.{leb}
-use Rattle.frames.specs.Layout.{mostContent, mostRequests}
+use Rattle.frames.specs.Layout.{mostRequests}
 use Rattle.frames.specs.Refusal.{frameRefusalNumber}
 use Rattle.frames.specs.Message.{messageFollows, messageBytes}
 use Rattle.frames.specs.Token.{tokenFollows, tokenBytes}
@@ -44,12 +44,13 @@ tokenWritten t out = writingOf (tokenFollows t) (tokenBytes t) out
 
 -- ---- a frame whose values are known to follow the layout: 12 is not asked again
 
--- the frame's bytes, followed by what stood after them, where it is short enough for a frame and there is room; else every byte as it was
-unfoldable pub framePut : Bool → List ℕ → List ℕ → List ℕ
-framePut short frame out = cond (short && leb (length frame) (length out)) (frame ++ drop (length frame) out) out
+-- the frame's bytes, followed by what stood after them, where there is room; else every byte as it was
+unfoldable pub framePut : List ℕ → List ℕ → List ℕ
+framePut frame out = cond (leb (length frame) (length out)) (frame ++ drop (length frame) out) out
 
 abbrev pub messagePut : Message → List ℕ → List ℕ → List ℕ
-messagePut m content out = framePut (leb (length content) mostContent) (messageBytes m content) out
+messagePut m content out = framePut (messageBytes m content) out
 
-abbrev pub tokenPut : Token → List ℕ → List ℕ
-tokenPut t out = framePut (leb (t .count) mostRequests) (tokenBytes t) out
+-- there are 16 places for requests, and no frame for a count of more
+unfoldable pub tokenPut : Token → List ℕ → List ℕ
+tokenPut t out = cond (leb (t .count) mostRequests) (framePut (tokenBytes t) out) out

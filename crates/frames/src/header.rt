@@ -43,12 +43,13 @@ pub fn header_follows(h: Header) -> bool
     number::is_number(h.ring.0) & number::is_id(h.representative)
 }
 
-// The header of a frame of `size` bytes in all.
+// The header of a frame of `size` bytes in all; the length field has the low two bytes of what follows it.
 pub fn put_header(out: &mut [u8], size: usize, kind: u16, h: Header)
-    requires { ⌜ (headerSize ≤ length (now out)) × (lengthSize ≤ size) × (size ≤ mostFramed) ⌝ }
+    requires { ⌜ (headerSize ≤ length (now out)) × (lengthSize ≤ size) ⌝ }
     ensures { λ _. ⌜ now (out .exit) ≡ sets (now (out .entry)) 0 (headerBytes size kind h) ⌝ }
 {
-    words::put_u16(out, layout::LENGTH_AT, (size - layout::LENGTH_SIZE) as u16);
+    let length = size - layout::LENGTH_SIZE;
+    words::put_u16(out, layout::LENGTH_AT, (length % 65536) as u16);
     words::put_u16(out, layout::KIND_AT, kind);
     words::put_u32(out, layout::RING_AT, h.ring.0);
     words::put_u16(out, layout::REPRESENTATIVE_AT, h.representative);

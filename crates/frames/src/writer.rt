@@ -3,7 +3,7 @@ ghost use mathlib.Core.Path.{_≡_};
 ghost use Prim.Native.Nat.{_≤_};
 ghost use lib.ListN.{length};
 ghost use lib.Seq.{sets};
-ghost use Rattle.frames.specs.Layout.{mostFramed, contentAt, requestsAt, mostRequests};
+ghost use Rattle.frames.specs.Layout.{contentAt, requestsAt, mostRequests};
 ghost use Rattle.frames.specs.Message.{messageFixed};
 ghost use Rattle.frames.specs.Token.{tokenFixed};
 ghost use Rattle.frames.specs.Write.{writeOutcomeOf, messageWritten, tokenWritten, messagePut, tokenPut};
@@ -23,7 +23,7 @@ pub enum Written {
 
 // The bytes before the content, of a frame of `size` bytes in all.
 fn put_message_fixed(out: &mut [u8], m: Message, size: usize)
-    requires { ⌜ (contentAt ≤ length (now out)) × (contentAt ≤ size) × (size ≤ mostFramed) ⌝ }
+    requires { ⌜ (contentAt ≤ length (now out)) × (contentAt ≤ size) ⌝ }
     ensures { λ _. ⌜ now (out .exit) ≡ sets (now (out .entry)) 0 (messageFixed m size) ⌝ }
 {
     header::put_header(out, size, layout::MESSAGE_KIND, m.header);
@@ -33,15 +33,12 @@ fn put_message_fixed(out: &mut [u8], m: Message, size: usize)
     words::put_u16(out, layout::SERVICE_AT, m.service);
 }
 
-// Puts a message's frame to the front of `out`, for one that is known to follow the layout: only the content's
-// length and the room are asked, and where one is wrong `out` is left alone. Ruled out: a byte past the frame
-// changed; a content that starts a byte late.
+// Puts a message's frame to the front of `out`, for one that is known to follow the layout: only the room is
+// asked, and where there is none `out` is left alone. Ruled out: a byte past the frame changed; a content that
+// starts a byte late.
 pub fn put_message(m: Message, content: &[u8], out: &mut [u8])
     ensures { λ _. ⌜ now (out .exit) ≡ messagePut m (now (content .entry)) (now (out .entry)) ⌝ }
 {
-    if layout::MOST_CONTENT < content.len() {
-        return;
-    }
     let size = layout::CONTENT_AT + content.len();
     if out.len() < size {
         return;

@@ -80,7 +80,7 @@ bytes-more (suc v) x k =
     let e : 256 ^ suc v * k ≡ 256 * (256 ^ v * k) = rw (pow-succ', mul-assoc) in
     rw (e, add-mul-mod-self-left, add-mul-div-left x (256 ^ v * k) {y = 256} (omega arith), bytes-more v (x / 256) k)
 
-bytes-low : (v x : ℕ) → wordBytes v (x % 256 ^ v) ≡ wordBytes v x
+pub bytes-low : (v x : ℕ) → wordBytes v (x % 256 ^ v) ≡ wordBytes v x
 bytes-low v x = sym (bytes-more v (x % 256 ^ v) (x / 256 ^ v)) ∙ ap (wordBytes v) (mod-add-div x (256 ^ v))
 
 bytes-join : (v w x : ℕ) → wordBytes (v + w) x ≡ wordBytes v x ++ wordBytes w (x / 256 ^ v)

@@ -2,13 +2,12 @@ use Prim.Native.Nat.{_≤_}
 use mathlib.Core.Path.{_≡_, sym, ap, _∙_}
 use native.Mathlib.Omega.{arith}
 use borrow.Author.Needs.{needs}
-use borrow.Author.Tests.{le-leb, lt-leb}
 use lib.ListN.{length}
 use lib.Seq.{length-take-le}
 use Rattle.frames.specs.Layout.{mostRequests}
 use Rattle.frames.specs.Token.{requestNumbers}
 use Rattle.frames.proofs.Sizes.{token-length}
-use Rattle.frames.proofs.WriteLaws.{put-long, put-roomless, token-taken}
+use Rattle.frames.proofs.WriteLaws.{put-long, put-short, put-roomless, token-taken}
 use Rattle.frames.proofs.writer.put_token.Statement.{statement}
 use Rattle.frames.proofs.writer.put_token.Tie as tie
 
@@ -18,10 +17,10 @@ few c =
     omega (arith, places, ap length (c .before .before .numbers-in .ensures), c .if1 .left)
 
 returns : tie.Need-returns
-returns c = put-long _ _ _ (lt-leb _ _ (c .if1 .taken))
+returns c = put-long _ _ (c .if1 .taken)
 
 returns-2 : tie.Need-returns-2
-returns-2 c = put-roomless _ _ _ _ (le-leb _ _ (c .before .before .if1 .left)) (token-length _ (few (c .before .before)) ∙ sym (c .before .token-size .ensures)) (c .if2 .taken)
+returns-2 c = put-roomless _ _ _ (token-length _ (few (c .before .before)) ∙ sym (c .before .token-size .ensures)) (c .if2 .taken) ∙ put-short _ _ (c .before .before .if1 .left)
 
 array-share-prefix-requests : tie.Need-array-share-prefix-requests
 array-share-prefix-requests c = search needs
