@@ -13,6 +13,6 @@ isNumber n = leb 1 n && leb n mostNumber
 abbrev pub mostId : ℕ
 mostId = 65535
 
--- a member's id
+-- in the range of ids; whether it is a member's is question 14
 abbrev pub isId : ℕ → Bool
 isId n = leb 1 n && leb n mostId

@@ -1,5 +1,6 @@
 // Totem frames: the reader and the writer. A logger can use this crate alone. Every public function
-// takes any values and any bytes of any length, and answers a value or a numbered refusal.
+// takes any values and any bytes of any length; `read`, `write_message` and `write_token` answer what
+// is wrong by its number.
 mod header;
 mod layout;
 mod message;

@@ -1,4 +1,4 @@
--- The record's bytes: each part's fields one after another, in the order of the struct, and each part read from the place where it
+-- The record's bytes: each part's fields one after another, in the order of Layout.antt, and each part read from the place where it
 -- stands. [document 01, The station and its neighbours; docs/RECORD.md]
 use Prim.Native.Nat.{ℕ}
 use mathlib.Core.List.{List, _++_}

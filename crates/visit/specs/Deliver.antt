@@ -47,11 +47,12 @@ isAgreed e = eqb (e .service) 0
 abbrev pub isDue : Log → ℕ → ℕ → Bool
 isDue l safe n = isAgreed (entryOf l n) || leb n safe
 
--- the numbers after the delivered mark up to the level, as far as each is handed out
+-- the numbers up to the first that fails the test
 unfoldable pub takeWhile : (ℕ → Bool) → List ℕ → List ℕ
 takeWhile test [] = []
 takeWhile test (n ∷ ns) = cond (test n) (n ∷ takeWhile test ns) []
 
+-- the numbers after the delivered mark up to the level, as far as each is handed out
 unfoldable pub due : Log → ℕ → List ℕ
 due l safe = takeWhile (isDue l safe) (numbersAfter (l .delivered .0) (l .level .0 - l .delivered .0))
 

@@ -51,7 +51,7 @@ own v = v .rec .own
 abbrev pub mostNew : ℕ
 mostNew = 8
 
--- broadcasts of one round [window_size]
+-- the broadcasts of one round that leave nothing for new messages [window_size]
 abbrev pub mostInRound : ℕ
 mostInRound = 24
 
@@ -195,7 +195,7 @@ token′ v =
       requests = numbered (requests′ v ++ replicate (mostRequests - length (requests′ v)) 0);
     }
 
--- its number is remembered [my_token_seq], and it may be resent. The record lists the aru forwarded before this one too; no step reads it
+-- its number is remembered [my_token_seq], and it may be resent. `earlier` is the aru forwarded before this one: document 01 lists it, question 2 asks about it, no step reads it
 unfoldable pub turn′ : Visit → Turn
 turn′ v =
     record {
