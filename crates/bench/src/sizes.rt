@@ -45,6 +45,7 @@ fn asking(count: u16) -> Token {
         aru: MessageNumber(0),
         blocker: blocker(count),
         round: 0,
+        backlog: 0,
         count,
         requests: requests(count),
     }

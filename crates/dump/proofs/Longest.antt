@@ -91,7 +91,7 @@ unfolding tokenLine tokenFields headerText requestsText
 size-token t h =
     simp (size-append, size-piece)
     (omega
-    (arith, length-digits 10 (t .header .ring .0), length-digits 10 (t .header .representative), length-digits 10 (t .addressee), length-digits 10 (t .number .0), length-digits 10 (t .highest .0), length-digits 10 (t .aru .0), size-blocker (t .blocker), length-digits 10 (t .round), size-listed (take (t .count) (requestNumbers t)), length-take (t .count) (requestNumbers t)))
+    (arith, length-digits 10 (t .header .ring .0), length-digits 10 (t .header .representative), length-digits 10 (t .addressee), length-digits 10 (t .number .0), length-digits 10 (t .highest .0), length-digits 10 (t .aru .0), size-blocker (t .blocker), length-digits 10 (t .round), length-digits 10 (t .backlog), size-listed (take (t .count) (requestNumbers t)), length-take (t .count) (requestNumbers t)))
 
 size-unread : (number : ℕ) → size (unreadLine number) ≤ longestLine
 unfolding unreadLine

@@ -20,17 +20,17 @@ unfolding lineText flatten readOf wordAt wordOf readMessage readToken messageOf 
 message-line = refl
 
 abbrev token : List ℕ
-token = 36 ∷ 0 ∷ 2 ∷ 0 ∷ 4 ∷ 0 ∷ 0 ∷ 0 ∷ 3 ∷ 0 ∷ 7 ∷ 0 ∷ 2 ∷ 0 ∷ 0 ∷ 0 ∷ 3 ∷ 0 ∷ 0 ∷ 0 ∷ 2 ∷ 0 ∷ 0 ∷ 0 ∷ 7 ∷ 0 ∷ 1 ∷ 0 ∷ 2 ∷ 0 ∷ 3 ∷ 0 ∷ 0 ∷ 0 ∷ 2 ∷ 0 ∷ 0 ∷ 0 ∷ []
+token = 38 ∷ 0 ∷ 2 ∷ 0 ∷ 4 ∷ 0 ∷ 0 ∷ 0 ∷ 3 ∷ 0 ∷ 7 ∷ 0 ∷ 2 ∷ 0 ∷ 0 ∷ 0 ∷ 3 ∷ 0 ∷ 0 ∷ 0 ∷ 2 ∷ 0 ∷ 0 ∷ 0 ∷ 7 ∷ 0 ∷ 1 ∷ 0 ∷ 5 ∷ 0 ∷ 2 ∷ 0 ∷ 3 ∷ 0 ∷ 0 ∷ 0 ∷ 2 ∷ 0 ∷ 0 ∷ 0 ∷ []
 
-pub token-line : lineOf token ≡ ascii "token ring=4 rep=3 addressee=7 token_seq=2 seq=3 aru=2 aru_id=7 fcc=1 rtr=[3,2]\n"
+pub token-line : lineOf token ≡ ascii "token ring=4 rep=3 addressee=7 token_seq=2 seq=3 aru=2 aru_id=7 fcc=1 backlog=5 rtr=[3,2]\n"
 unfolding lineText flatten readOf wordAt wordOf words every readMessage readToken tokenOf tokenFollows numbersIn numbered requestsOf requestsFollow headerOf headerFollows tokenLine tokenFields requestsText headerText digitsTo each
 token-line = refl
 
 -- the first token of ring 4
 abbrev first : List ℕ
-first = 28 ∷ 0 ∷ 2 ∷ 0 ∷ 4 ∷ 0 ∷ 0 ∷ 0 ∷ 3 ∷ 0 ∷ 3 ∷ 0 ∷ 1 ∷ 0 ∷ 0 ∷ 0 ∷ 0 ∷ 0 ∷ 0 ∷ 0 ∷ 0 ∷ 0 ∷ 0 ∷ 0 ∷ 0 ∷ 0 ∷ 0 ∷ 0 ∷ 0 ∷ 0 ∷ []
+first = 30 ∷ 0 ∷ 2 ∷ 0 ∷ 4 ∷ 0 ∷ 0 ∷ 0 ∷ 3 ∷ 0 ∷ 3 ∷ 0 ∷ 1 ∷ 0 ∷ 0 ∷ 0 ∷ 0 ∷ 0 ∷ 0 ∷ 0 ∷ 0 ∷ 0 ∷ 0 ∷ 0 ∷ 0 ∷ 0 ∷ 0 ∷ 0 ∷ 0 ∷ 0 ∷ 0 ∷ 0 ∷ []
 
-pub first-line : lineOf first ≡ ascii "token ring=4 rep=3 addressee=3 token_seq=1 seq=0 aru=0 aru_id=nobody fcc=0 rtr=[]\n"
+pub first-line : lineOf first ≡ ascii "token ring=4 rep=3 addressee=3 token_seq=1 seq=0 aru=0 aru_id=nobody fcc=0 backlog=0 rtr=[]\n"
 unfolding lineText flatten readOf wordAt wordOf words every readMessage readToken tokenOf tokenFollows numbersIn numbered requestsOf requestsFollow headerOf headerFollows tokenLine tokenFields requestsText headerText digitsTo each
 first-line = refl
 

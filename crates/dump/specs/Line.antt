@@ -64,6 +64,7 @@ tokenLine t =
     tokenFields t
     ++ blockerText (t .blocker)
     ++ field (ascii " fcc=") (t .round)
+    ++ field (ascii " backlog=") (t .backlog)
     ++ requestsText (requestNumbers t) (t .count)
     ++ piece (ascii "\n")
 

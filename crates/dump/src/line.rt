@@ -131,6 +131,7 @@ fn put_token(out: &mut [u8], at: usize, t: Token) -> usize
     let at = put_token_fields(out, at, t);
     let at = put_blocker(out, at, blocker);
     let at = put_id(out, at, b" fcc=", t.round);
+    let at = put_id(out, at, b" backlog=", t.backlog);
     let at = put_requests(out, at, &requests, t.count);
     text::put_bytes(out, at, b"\n")
 }

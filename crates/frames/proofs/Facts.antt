@@ -9,7 +9,7 @@ use lib.ListN.{length, take, drop}
 use lib.Dec.{leb, eqb}
 use Rattle.words.specs.Scan.{allWithin, allZero}
 use Rattle.frames.specs.Number.{mostNumber, isNumber, mostId, isId}
-use Rattle.frames.specs.Layout.{mostService, mostContent, mostRound, mostRequests}
+use Rattle.frames.specs.Layout.{mostService, mostContent, mostRound, mostBacklog, mostRequests}
 use Rattle.frames.specs.Header.{headerFollows}
 use Rattle.frames.specs.Message.{messageFollows}
 use Rattle.frames.specs.Token.{blockerFollows, requestNumbers, requestsFollow, tokenFollows}
@@ -102,6 +102,7 @@ pub record TokenFacts (t : Token) : Type 0 where
   pub aru : t .aru .0 ≤ t .highest .0
   pub blocker : blockerFollows (t .blocker) (t .aru .0) (t .highest .0) ≡ true
   pub round : t .round ≤ mostRound
+  pub backlog : t .backlog ≤ mostBacklog
   pub requests : RequestFacts (t .count) (requestNumbers t) (t .highest .0)
 
 pub token-facts : (t : Token) → tokenFollows t ≡ true → TokenFacts t
@@ -115,5 +116,6 @@ token-facts t e =
       aru = leb-true (t .aru .0) (t .highest .0) (part e (λ (f : leb (t .aru .0) (t .highest .0) ≡ false). simp (f, and-false)));
       blocker = part e (λ (f : blockerFollows (t .blocker) (t .aru .0) (t .highest .0) ≡ false). simp (f, and-false));
       round = leb-true (t .round) mostRound (part e (λ (f : leb (t .round) mostRound ≡ false). simp (f, and-false)));
+      backlog = leb-true (t .backlog) mostBacklog (part e (λ (f : leb (t .backlog) mostBacklog ≡ false). simp (f, and-false)));
       requests = request-facts (t .count) (requestNumbers t) (t .highest .0) (part e (λ (f : requestsFollow (t .count) (requestNumbers t) (t .highest .0) ≡ false). simp (f, and-false)));
     }

@@ -6,14 +6,14 @@ use lib.Seq.{sets}
 use Rattle.words.specs.Word.{wordBytes}
 use Rattle.words.proofs.StoreLaws.{stored-none, stored-next}
 use Rattle.words.proofs.WordLaws.{bytes-low, stored-word}
-use Rattle.frames.specs.Layout.{lengthAt, lengthSize, kindAt, ringAt, representativeAt, headerSize, messageKind, senderAt, messageNumberAt, configurationAt, serviceAt, tokenKind, tokenSize, addresseeAt, tokenNumberAt, highestAt, aruAt, blockerAt, roundAt, countAt}
+use Rattle.frames.specs.Layout.{lengthAt, lengthSize, kindAt, ringAt, representativeAt, headerSize, messageKind, senderAt, messageNumberAt, configurationAt, serviceAt, tokenKind, tokenSize, addresseeAt, tokenNumberAt, highestAt, aruAt, blockerAt, roundAt, backlogAt, countAt}
 use Rattle.frames.specs.Header.{headerBytes}
 use Rattle.frames.specs.Message.{configuration, messageFixed}
-use Rattle.frames.specs.Token.{blockerId, tokenFixed}
+use Rattle.frames.specs.Token.{blockerId, tokenCounts, tokenFixed}
 use Rattle.frames.specs.declared.header.Header.{Header}
 use Rattle.frames.specs.declared.message.Message.{Message}
 use Rattle.frames.specs.declared.token.Token.{Token}
-use Rattle.frames.proofs.Sizes.{header-length}
+use Rattle.frames.proofs.Sizes.{header-length, counts-length}
 
 pub header-stored : (size kind : ℕ) (h : Header) (l l₁ l₂ l₃ l₄ : List ℕ)
     → l₁ ≡ sets l lengthAt (wordBytes 2 ((size - lengthSize) % 65536))
@@ -45,7 +45,18 @@ message-stored m size l l₁ l₂ l₃ l₄ l₅ e₁ e₂ e₃ e₄ e₅ =
     let w₅ = stored-word 2 (m .service) l₅ w₄ e₅ in
     w₅ .is
 
-pub token-stored : (t : Token) (size blocker : ℕ) (l l₁ l₂ l₃ l₄ l₅ l₆ l₇ l₈ : List ℕ)
+pub counts-stored : (t : Token) (l l₁ l₂ l₃ : List ℕ)
+    → l₁ ≡ sets l roundAt (wordBytes 2 (t .round))
+    → l₂ ≡ sets l₁ backlogAt (wordBytes 2 (t .backlog))
+    → l₃ ≡ sets l₂ countAt (wordBytes 2 (t .count))
+    → l₃ ≡ sets l roundAt (tokenCounts t)
+counts-stored t l l₁ l₂ l₃ e₁ e₂ e₃ =
+    let w₁ = stored-word 2 (t .round) l₁ (stored-none l roundAt) e₁ in
+    let w₂ = stored-word 2 (t .backlog) l₂ w₁ e₂ in
+    let w₃ = stored-word 2 (t .count) l₃ w₂ e₃ in
+    w₃ .is
+
+pub token-stored : (t : Token) (size blocker : ℕ) (l l₁ l₂ l₃ l₄ l₅ l₆ l₇ : List ℕ)
     → size ≡ tokenSize (t .count)
     → blocker ≡ blockerId (t .blocker)
     → l₁ ≡ sets l 0 (headerBytes size tokenKind (t .header))
@@ -54,17 +65,15 @@ pub token-stored : (t : Token) (size blocker : ℕ) (l l₁ l₂ l₃ l₄ l₅ 
     → l₄ ≡ sets l₃ highestAt (wordBytes 4 (t .highest .0))
     → l₅ ≡ sets l₄ aruAt (wordBytes 4 (t .aru .0))
     → l₆ ≡ sets l₅ blockerAt (wordBytes 2 blocker)
-    → l₇ ≡ sets l₆ roundAt (wordBytes 2 (t .round))
-    → l₈ ≡ sets l₇ countAt (wordBytes 2 (t .count))
-    → l₈ ≡ sets l 0 (tokenFixed t)
+    → l₇ ≡ sets l₆ roundAt (tokenCounts t)
+    → l₇ ≡ sets l 0 (tokenFixed t)
 unfolding tokenFixed
-token-stored t size blocker l l₁ l₂ l₃ l₄ l₅ l₆ l₇ l₈ sized blocked e₁ e₂ e₃ e₄ e₅ e₆ e₇ e₈ =
+token-stored t size blocker l l₁ l₂ l₃ l₄ l₅ l₆ l₇ sized blocked e₁ e₂ e₃ e₄ e₅ e₆ e₇ =
     let w₁ = stored-next headerSize (headerBytes size tokenKind (t .header)) l₁ (stored-none l 0) (header-length size tokenKind (t .header)) e₁ in
     let w₂ = stored-word 2 (t .addressee) l₂ w₁ e₂ in
     let w₃ = stored-word 4 (t .number .0) l₃ w₂ e₃ in
     let w₄ = stored-word 4 (t .highest .0) l₄ w₃ e₄ in
     let w₅ = stored-word 4 (t .aru .0) l₅ w₄ e₅ in
     let w₆ = stored-word 2 blocker l₆ w₅ e₆ in
-    let w₇ = stored-word 2 (t .round) l₇ w₆ e₇ in
-    let w₈ = stored-word 2 (t .count) l₈ w₇ e₈ in
-    rw (sized, blocked) at (w₈ .is)
+    let w₇ = stored-next 6 (tokenCounts t) l₇ w₆ (counts-length t) e₇ in
+    rw (sized, blocked) at (w₇ .is)

@@ -114,7 +114,7 @@ requests-back n requests highest most facts =
     let zeros : drop n requests ≡ replicate (mostRequests - n) 0 = rw rest at (zeros-are (drop n requests) (facts .rest)) in
     rw (first, ← zeros) (take-append-drop n requests)
 
-token-same : (t : Token) (header : Header) (addressee number highest aru : ℕ) (blocker : Blocker) (round count : ℕ) (requests : List MessageNumber)
+token-same : (t : Token) (header : Header) (addressee number highest aru : ℕ) (blocker : Blocker) (round backlog count : ℕ) (requests : List MessageNumber)
     → header ≡ t .header
     → addressee ≡ t .addressee
     → number ≡ t .number .0
@@ -122,10 +122,11 @@ token-same : (t : Token) (header : Header) (addressee number highest aru : ℕ) 
     → aru ≡ t .aru .0
     → blocker ≡ t .blocker
     → round ≡ t .round
+    → backlog ≡ t .backlog
     → count ≡ t .count
     → requests ≡ t .requests
-    → record { header = header; addressee = addressee; number = record { 0 = number }; highest = record { 0 = highest }; aru = record { 0 = aru }; blocker = blocker; round = round; count = count; requests = requests } ≡ t
-token-same t header addressee number highest aru blocker round count requests e₁ e₂ e₃ e₄ e₅ e₆ e₇ e₈ e₉ = rw (e₁, e₂, e₃, e₄, e₅, e₆, e₇, e₈, e₉)
+    → record { header = header; addressee = addressee; number = record { 0 = number }; highest = record { 0 = highest }; aru = record { 0 = aru }; blocker = blocker; round = round; backlog = backlog; count = count; requests = requests } ≡ t
+token-same t header addressee number highest aru blocker round backlog count requests e₁ e₂ e₃ e₄ e₅ e₆ e₇ e₈ e₉ e₁₀ = rw (e₁, e₂, e₃, e₄, e₅, e₆, e₇, e₈, e₉, e₁₀)
 
 module _ (t : Token) (facts : TokenFacts t) where
   token-length-back : wordAt 2 (tokenBytes t) lengthAt ≡ tokenSize (t .count) - lengthSize
@@ -144,7 +145,7 @@ module _ (t : Token) (facts : TokenFacts t) where
   unfolding wordAt wordOf wordBytes headerOf headerBytes tokenFixed tokenOf
   token-back =
       let blocked = blocker-back (t .blocker) (t .aru .0) (t .highest .0) (facts .blocker) in
-      token-same t _ _ _ _ _ _ _ _ _
+      token-same t _ _ _ _ _ _ _ _ _ _
       (header-back (tokenSize (t .count)) tokenKind (t .header) (drop headerSize (tokenBytes t)) (facts .header))
       (word-back 2 (t .addressee) (omega (arith, facts .addressee .high)))
       (word-back 4 (t .number .0) (omega (arith, facts .number .high)))
@@ -152,6 +153,7 @@ module _ (t : Token) (facts : TokenFacts t) where
       (word-back 4 (t .aru .0) (omega (arith, facts .aru, facts .highest)))
       (ap blockerOf (word-back 2 (blockerId (t .blocker)) (blocked .0)) ∙ blocked .1)
       (word-back 2 (t .round) (omega (arith, facts .round)))
+      (word-back 2 (t .backlog) (omega (arith, facts .backlog)))
       token-count-back
       (rw (token-count-back, token-requests-back, numbered-back))
 

@@ -12,7 +12,7 @@ use Rattle.words.specs.Word.{Bytes, wordAt}
 use Rattle.words.specs.Run.{words, wordsBytes}
 use Rattle.words.proofs.WordLaws.{word-split, bytes-drop}
 use Rattle.words.proofs.RunLaws.{length-words, words-there}
-use Rattle.frames.specs.Layout.{lengthAt, lengthSize, kindAt, ringAt, representativeAt, headerSize, senderAt, messageNumberAt, configurationAt, serviceAt, contentAt, messageKind, messageSize, addresseeAt, tokenNumberAt, highestAt, aruAt, blockerAt, roundAt, countAt, requestsAt, mostRequests, tokenKind, tokenSize}
+use Rattle.frames.specs.Layout.{lengthAt, lengthSize, kindAt, ringAt, representativeAt, headerSize, senderAt, messageNumberAt, configurationAt, serviceAt, contentAt, messageKind, messageSize, addresseeAt, tokenNumberAt, highestAt, aruAt, blockerAt, roundAt, backlogAt, countAt, requestsAt, mostRequests, tokenKind, tokenSize}
 use Rattle.frames.specs.Header.{ownSize, headerOf, headerBytes}
 use Rattle.frames.specs.Message.{configuration, messageOf, contentOf, messageFollows, messageFixed, messageBytes}
 use Rattle.frames.specs.Token.{blockerOf, blockerId, requestCount, requestsOf, tokenOf, tokenFollows, tokenFixed, tokenBytes}
@@ -210,8 +210,9 @@ token-there s b size sized kinded =
     let w₅ = word-split 4 s aruAt b (omega arith) in
     let w₆ = word-split 2 s blockerAt b (omega arith) in
     let w₇ = word-split 2 s roundAt b (omega arith) in
-    let w₈ = word-split 2 s countAt b (omega arith) in
-    rw (numbers-back, requests-there s (requestCount s) b size, blocker-there) (simp append-assoc (rw (w₈, w₇, w₆, w₅, w₄, w₃, w₂) h))
+    let w₈ = word-split 2 s backlogAt b (omega arith) in
+    let w₉ = word-split 2 s countAt b (omega arith) in
+    rw (numbers-back, requests-there s (requestCount s) b size, blocker-there) (simp append-assoc (rw (w₉, w₈, w₇, w₆, w₅, w₄, w₃, w₂) h))
 
 pub token-rewritten : TokenRewritten
 token-rewritten s t b e =

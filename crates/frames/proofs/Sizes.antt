@@ -14,7 +14,7 @@ use Rattle.words.proofs.RunLaws.{length-words-bytes}
 use Rattle.frames.specs.Layout.{lengthAt, lengthSize, headerSize, contentAt, messageSize, requestsAt, tokenSize}
 use Rattle.frames.specs.Header.{ownSize, framedSize, headerBytes}
 use Rattle.frames.specs.Message.{messageFixed, messageBytes}
-use Rattle.frames.specs.Token.{requestNumbers, tokenFixed, tokenBytes}
+use Rattle.frames.specs.Token.{requestNumbers, tokenCounts, tokenFixed, tokenBytes}
 use Rattle.frames.specs.declared.header.Header.{Header}
 use Rattle.frames.specs.declared.message.Message.{Message}
 use Rattle.frames.specs.declared.token.Token.{Token}
@@ -29,6 +29,9 @@ message-fixed-length m size = simp (length-append, length-word, header-length)
 
 pub message-length : (m : Message) (content : List ℕ) → length (messageBytes m content) ≡ messageSize (length content)
 message-length m content = simp (length-append, message-fixed-length)
+
+pub counts-length : (t : Token) → length (tokenCounts t) ≡ 6
+counts-length t = simp (length-append, length-word)
 
 pub token-fixed-length : (t : Token) → length (tokenFixed t) ≡ requestsAt
 unfolding tokenFixed

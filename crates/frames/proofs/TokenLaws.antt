@@ -12,7 +12,7 @@ use Rattle.words.specs.Scan.{allWithin, allZero, distinct}
 use Rattle.words.proofs.ScanLaws.{to-end}
 use Rattle.frames.specs.Number.{mostNumber, isNumber, isId}
 use Rattle.frames.specs.Header.{headerFollows}
-use Rattle.frames.specs.Layout.{mostRound, mostRequests, requestsAt}
+use Rattle.frames.specs.Layout.{mostRound, mostBacklog, mostRequests, requestsAt}
 use Rattle.frames.specs.Token.{blockerFollows, requestNumbers, requestsOf, requestsFollow, tokenFollows}
 use Rattle.frames.specs.declared.token.Token.{Token}
 
@@ -47,6 +47,6 @@ pub token-tested : (t : Token) (numbers : List ℕ) (header addressee number blo
     → blocker ≡ blockerFollows (t .blocker) (t .aru .0) (t .highest .0)
     → numbers ≡ requestNumbers t
     → requests ≡ requestsFollow (t .count) numbers (t .highest .0)
-    → header && addressee && number && leb (t .highest .0) mostNumber && leb (t .aru .0) (t .highest .0) && blocker && leb (t .round) mostRound && requests ≡ tokenFollows t
+    → header && addressee && number && leb (t .highest .0) mostNumber && leb (t .aru .0) (t .highest .0) && blocker && leb (t .round) mostRound && leb (t .backlog) mostBacklog && requests ≡ tokenFollows t
 unfolding tokenFollows
 token-tested t numbers header addressee number blocker requests e₁ e₂ e₃ e₄ taken e₅ = rw (e₁, e₂, e₃, e₄, rw taken at e₅)

@@ -83,14 +83,20 @@ blockerAt = 24
 abbrev pub roundAt : ℕ
 roundAt = 26
 
+abbrev pub backlogAt : ℕ
+backlogAt = 28
+
 abbrev pub countAt : ℕ
-countAt = 28
+countAt = 30
 
 abbrev pub requestsAt : ℕ
-requestsAt = 30
+requestsAt = 32
 
 abbrev pub mostRound : ℕ
 mostRound = 128
+
+abbrev pub mostBacklog : ℕ
+mostBacklog = 128
 
 abbrev pub mostRequests : ℕ
 mostRequests = 16

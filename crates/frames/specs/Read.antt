@@ -37,6 +37,7 @@ blankToken =
       aru = record { 0 = 0 };
       blocker = Nobody;
       round = 0;
+      backlog = 0;
       count = 0;
       requests = replicate mostRequests (record { 0 = 0 });
     }

@@ -1,4 +1,4 @@
--- Kind 2, token. [document 01, Frames; the paper's token: token_seq, seq, aru, aru_id, rtr, and fcc of its flow control]
+-- Kind 2, token. [document 01, Frames; the paper's token: token_seq, seq, aru, aru_id, rtr, and fcc of its flow control; the backlog is document 02's, Job 1]
 use Prim.Native.Nat.{ℕ, _-_}
 use mathlib.Core.Bool.{Bool, not, _&&_, cond}
 use mathlib.Core.List.{List, _++_, map}
@@ -8,7 +8,7 @@ use Rattle.words.specs.Word.{wordAt, wordBytes}
 use Rattle.words.specs.Run.{words, wordsBytes}
 use Rattle.words.specs.Scan.{allWithin, allZero, distinct}
 use Rattle.frames.specs.Number.{mostNumber, isNumber, isId}
-use Rattle.frames.specs.Layout.{addresseeAt, tokenNumberAt, highestAt, aruAt, blockerAt, roundAt, countAt, requestsAt, tokenKind, mostRound, mostRequests, tokenSize}
+use Rattle.frames.specs.Layout.{addresseeAt, tokenNumberAt, highestAt, aruAt, blockerAt, roundAt, backlogAt, countAt, requestsAt, tokenKind, mostRound, mostBacklog, mostRequests, tokenSize}
 use Rattle.frames.specs.Header.{headerOf, headerFollows, headerBytes}
 use Rattle.frames.specs.declared.number.MessageNumber.{MessageNumber}
 use Rattle.frames.specs.declared.token.Blocker.{Blocker}
@@ -69,6 +69,7 @@ tokenOf s =
       aru = record { 0 = wordAt 4 s aruAt };
       blocker = blockerOf (wordAt 2 s blockerAt);
       round = wordAt 2 s roundAt;
+      backlog = wordAt 2 s backlogAt;
       count = requestCount s;
       requests = numbered (requestsOf (requestCount s) s);
     }
@@ -83,7 +84,12 @@ tokenFollows t =
     && leb (t .aru .0) (t .highest .0)
     && blockerFollows (t .blocker) (t .aru .0) (t .highest .0)
     && leb (t .round) mostRound
+    && leb (t .backlog) mostBacklog
     && requestsFollow (t .count) (requestNumbers t) (t .highest .0)
+
+-- the round count, the backlog and the number of requests
+abbrev pub tokenCounts : Token → List ℕ
+tokenCounts t = wordBytes 2 (t .round) ++ wordBytes 2 (t .backlog) ++ wordBytes 2 (t .count)
 
 -- the bytes before the requests
 unfoldable pub tokenFixed : Token → List ℕ
@@ -94,8 +100,7 @@ tokenFixed t =
     ++ wordBytes 4 (t .highest .0)
     ++ wordBytes 4 (t .aru .0)
     ++ wordBytes 2 (blockerId (t .blocker))
-    ++ wordBytes 2 (t .round)
-    ++ wordBytes 2 (t .count)
+    ++ tokenCounts t
 
 abbrev pub tokenBytes : Token → List ℕ
 tokenBytes t = tokenFixed t ++ wordsBytes 4 (take (t .count) (requestNumbers t))

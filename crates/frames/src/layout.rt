@@ -54,11 +54,15 @@ pub const BLOCKER_AT: usize = 24;
 
 pub const ROUND_AT: usize = 26;
 
-pub const COUNT_AT: usize = 28;
+pub const BACKLOG_AT: usize = 28;
 
-pub const REQUESTS_AT: usize = 30;
+pub const COUNT_AT: usize = 30;
+
+pub const REQUESTS_AT: usize = 32;
 
 pub const MOST_ROUND: u16 = 128;
+
+pub const MOST_BACKLOG: u16 = 128;
 
 pub const MOST_REQUESTS: usize = 16;
 

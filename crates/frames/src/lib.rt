@@ -14,6 +14,7 @@ pub use header::Header;
 pub use header::framed_size;
 pub use layout::LONGEST_MESSAGE;
 pub use layout::LONGEST_TOKEN;
+pub use layout::MOST_BACKLOG;
 pub use layout::MOST_CONTENT;
 pub use layout::MOST_REQUESTS;
 pub use layout::MOST_ROUND;

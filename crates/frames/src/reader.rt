@@ -42,6 +42,7 @@ fn blank_token() -> Token
         aru: MessageNumber(0),
         blocker: Blocker::Nobody,
         round: 0,
+        backlog: 0,
         count: 0,
         requests: [MessageNumber(0); layout::MOST_REQUESTS],
     }

@@ -28,6 +28,8 @@ pub struct Token {
     pub blocker: Blocker,
     // Broadcasts of the last round. The paper's fcc.
     pub round: u16,
+    // What waited at the stations when each last forwarded the token, in all.
+    pub backlog: u16,
     // The requests are the first `count` places; the others are 0. The paper's rtr.
     pub count: u16,
     pub requests: [MessageNumber; layout::MOST_REQUESTS],
@@ -122,6 +124,7 @@ pub fn token_of(frame: &[u8], n: u16) -> Token
         aru: MessageNumber(words::get_u32(frame, layout::ARU_AT)),
         blocker: blocker_of(words::get_u16(frame, layout::BLOCKER_AT)),
         round: words::get_u16(frame, layout::ROUND_AT),
+        backlog: words::get_u16(frame, layout::BACKLOG_AT),
         count: n,
         requests: numbered(requests_of(frame, n)),
     }
@@ -142,5 +145,6 @@ pub fn token_follows(t: Token) -> bool
         & (t.aru.0 <= t.highest.0)
         & blocker_follows(blocker, t.aru.0, t.highest.0)
         & (t.round <= layout::MOST_ROUND)
+        & (t.backlog <= layout::MOST_BACKLOG)
         & asked
 }

@@ -3,9 +3,9 @@ ghost use mathlib.Core.Path.{_≡_};
 ghost use Prim.Native.Nat.{_≤_};
 ghost use lib.ListN.{length};
 ghost use lib.Seq.{sets};
-ghost use Rattle.frames.specs.Layout.{contentAt, requestsAt, mostRequests};
+ghost use Rattle.frames.specs.Layout.{contentAt, roundAt, requestsAt, mostRequests};
 ghost use Rattle.frames.specs.Message.{messageFixed};
-ghost use Rattle.frames.specs.Token.{tokenFixed};
+ghost use Rattle.frames.specs.Token.{tokenCounts, tokenFixed};
 ghost use Rattle.frames.specs.Write.{writeOutcomeOf, messageWritten, tokenWritten, messagePut, tokenPut};
 use crate::header;
 use crate::layout;
@@ -64,6 +64,16 @@ pub fn write_message(m: Message, content: &[u8], out: &mut [u8]) -> Written
     Written::Size(size)
 }
 
+// The round count, the backlog and the number of requests.
+fn put_counts(out: &mut [u8], t: Token)
+    requires { ⌜ requestsAt ≤ length (now out) ⌝ }
+    ensures { λ _. ⌜ now (out .exit) ≡ sets (now (out .entry)) roundAt (tokenCounts t) ⌝ }
+{
+    words::put_u16(out, layout::ROUND_AT, t.round);
+    words::put_u16(out, layout::BACKLOG_AT, t.backlog);
+    words::put_u16(out, layout::COUNT_AT, t.count);
+}
+
 // The bytes before the requests.
 fn put_token_fixed(out: &mut [u8], t: Token)
     requires { ⌜ (requestsAt ≤ length (now out)) × (t .count ≤ mostRequests) ⌝ }
@@ -81,8 +91,7 @@ fn put_token_fixed(out: &mut [u8], t: Token)
     words::put_u32(out, layout::HIGHEST_AT, t.highest.0);
     words::put_u32(out, layout::ARU_AT, t.aru.0);
     words::put_u16(out, layout::BLOCKER_AT, token::blocker_id(blocker));
-    words::put_u16(out, layout::ROUND_AT, t.round);
-    words::put_u16(out, layout::COUNT_AT, t.count);
+    put_counts(out, t);
 }
 
 // Puts a token's frame to the front of `out`, for one that is known to follow the layout: only the count and the

@@ -50,6 +50,7 @@ pub record TurnFits (t : Turn) : Type 0 where
   pub number : t .number .0 < 256 ^ 4
   pub broadcast : t .broadcast < 256 ^ 1
   pub stall : t .stall < 256 ^ 1
+  pub waited : t .waited < 256 ^ 1
   pub size : t .size < 256 ^ 1
   pub token : length (t .token) ≡ longestToken
 
@@ -95,6 +96,7 @@ turn-fits t g =
       number = omega arith;
       broadcast = omega arith;
       stall = omega arith;
+      waited = omega arith;
       size = omega arith;
       token = g .token-long;
     }

@@ -9,7 +9,7 @@ use Rattle.words.specs.Run.{words}
 use Rattle.words.proofs.ScanLaws.{to-end}
 use Rattle.frames.specs.Layout.{longestToken}
 use Rattle.record.specs.Size.{mostMembers, mostHeld, mostPosts, heldContents}
-use Rattle.record.specs.Layout.{ownAt, logAt, turnAt, postsAt, logRingAt, memberCountAt, membersAt, levelAt, safeAt, deliveredAt, heldMessagesAt, sendersAt, heldServicesAt, heldLengthsAt, heldContentsAt, turnAruAt, earlierAt, turnNumberAt, broadcastAt, stallAt, tokenSizeAt, tokenAt, postCountAt, postServicesAt, postLengthsAt, postContentsAt}
+use Rattle.record.specs.Layout.{ownAt, logAt, turnAt, postsAt, logRingAt, memberCountAt, membersAt, levelAt, safeAt, deliveredAt, heldMessagesAt, sendersAt, heldServicesAt, heldLengthsAt, heldContentsAt, turnAruAt, earlierAt, turnNumberAt, broadcastAt, stallAt, waitedAt, tokenSizeAt, tokenAt, postCountAt, postServicesAt, postLengthsAt, postContentsAt}
 use Rattle.record.specs.Bytes.{bytesAt, heldOf, logOf, turnOf, postsOf, recordOf}
 use Rattle.record.specs.inner.Head.{logOn, postsOn, recordOn, contentsIn, waitingIn}
 use Rattle.record.specs.declared.head.LogHead.{LogHead}
@@ -41,17 +41,18 @@ log-read s ring count members level safe delivered senders services lengths e₁
     let contents-there : contentsIn s 0 ≡ bytesAt heldContents (drop heldMessagesAt s) heldContentsAt = rw (drop-drop heldContentsAt heldMessagesAt s) in
     rw (e₁, e₂, e₃, e₄, e₅, e₆, senders-there, services-there, lengths-there, contents-there) (simp append-nil)
 
-pub turn-read : (s : List ℕ) (aru earlier number broadcast stall size : ℕ) (token : List ℕ)
+pub turn-read : (s : List ℕ) (aru earlier number broadcast stall waited size : ℕ) (token : List ℕ)
     → aru ≡ wordAt 4 s turnAruAt
     → earlier ≡ wordAt 4 s earlierAt
     → number ≡ wordAt 4 s turnNumberAt
     → broadcast ≡ wordAt 1 s broadcastAt
     → stall ≡ wordAt 1 s stallAt
+    → waited ≡ wordAt 1 s waitedAt
     → size ≡ wordAt 1 s tokenSizeAt
     → token ≡ bytesAt longestToken s tokenAt ++ []
-    → record { aru = record { 0 = aru }; earlier = record { 0 = earlier }; number = record { 0 = number }; broadcast = broadcast; stall = stall; size = size; token = token } ≡ turnOf s
+    → record { aru = record { 0 = aru }; earlier = record { 0 = earlier }; number = record { 0 = number }; broadcast = broadcast; stall = stall; waited = waited; size = size; token = token } ≡ turnOf s
 unfolding turnOf
-turn-read s aru earlier number broadcast stall size token e₁ e₂ e₃ e₄ e₅ e₆ e₇ = rw (e₁, e₂, e₃, e₄, e₅, e₆, e₇, append-nil)
+turn-read s aru earlier number broadcast stall waited size token e₁ e₂ e₃ e₄ e₅ e₆ e₇ e₈ = rw (e₁, e₂, e₃, e₄, e₅, e₆, e₇, e₈, append-nil)
 
 pub posts-read : (s : List ℕ) (count : ℕ) (services lengths : List ℕ)
     → count ≡ wordAt 1 s postCountAt

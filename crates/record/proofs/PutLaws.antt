@@ -11,7 +11,7 @@ use Rattle.words.proofs.StoreLaws.{Stored, stored-none, stored-next, front-stor
 use Rattle.words.proofs.WordLaws.{stored-word}
 use Rattle.frames.specs.Layout.{longestToken}
 use Rattle.record.specs.Size.{mostMembers, mostHeld, mostPosts, heldContents, postContents}
-use Rattle.record.specs.Layout.{ownAt, logAt, turnAt, postsAt, recordSize, logRingAt, memberCountAt, membersAt, levelAt, safeAt, deliveredAt, heldMessagesAt, logSize, sendersAt, heldServicesAt, heldLengthsAt, heldContentsAt, turnAruAt, earlierAt, turnNumberAt, broadcastAt, stallAt, tokenSizeAt, tokenAt, turnSize, postCountAt, postServicesAt, postLengthsAt, postContentsAt, postsSize}
+use Rattle.record.specs.Layout.{ownAt, logAt, turnAt, postsAt, recordSize, logRingAt, memberCountAt, membersAt, levelAt, safeAt, deliveredAt, heldMessagesAt, logSize, sendersAt, heldServicesAt, heldLengthsAt, heldContentsAt, turnAruAt, earlierAt, turnNumberAt, broadcastAt, stallAt, waitedAt, tokenSizeAt, tokenAt, turnSize, postCountAt, postServicesAt, postLengthsAt, postContentsAt, postsSize}
 use Rattle.record.specs.Bytes.{bytesAt, heldBytes, logBytes, turnBytes, postsBytes, recordBytes}
 use Rattle.record.specs.inner.Head.{logOn, postsOn, recordOn, contentsIn, waitingIn}
 use Rattle.record.specs.declared.head.LogHead.{LogHead}
@@ -82,25 +82,27 @@ log-stored x at l l₁ l₂ l₃ l₄ l₅ l₆ l₇ a room e₁ e₂ e₃ e₄ 
     let w₈ = left-alone heldContents w₇ (omega (arith, room)) in
     rw (← spot) (w₈ .is ∙ ap (sets l at) (append-assoc front places (bytesAt heldContents l (at + (heldMessagesAt + heldContentsAt)))))
 
-pub turn-stored : (t : Turn) (at : ℕ) (l l₁ l₂ l₃ l₄ l₅ l₆ l₇ : List ℕ)
+pub turn-stored : (t : Turn) (at : ℕ) (l l₁ l₂ l₃ l₄ l₅ l₆ l₇ l₈ : List ℕ)
     → l₁ ≡ sets l (at + turnAruAt) (wordBytes 4 (t .aru .0))
     → l₂ ≡ sets l₁ (at + earlierAt) (wordBytes 4 (t .earlier .0))
     → l₃ ≡ sets l₂ (at + turnNumberAt) (wordBytes 4 (t .number .0))
     → l₄ ≡ sets l₃ (at + broadcastAt) (wordBytes 1 (t .broadcast))
     → l₅ ≡ sets l₄ (at + stallAt) (wordBytes 1 (t .stall))
-    → l₆ ≡ sets l₅ (at + tokenSizeAt) (wordBytes 1 (t .size))
-    → l₇ ≡ sets l₆ (at + tokenAt) (t .token)
-    → l₇ ≡ sets l at (turnBytes t)
+    → l₆ ≡ sets l₅ (at + waitedAt) (wordBytes 1 (t .waited))
+    → l₇ ≡ sets l₆ (at + tokenSizeAt) (wordBytes 1 (t .size))
+    → l₈ ≡ sets l₇ (at + tokenAt) (t .token)
+    → l₈ ≡ sets l at (turnBytes t)
 unfolding turnBytes
-turn-stored t at l l₁ l₂ l₃ l₄ l₅ l₆ l₇ e₁ e₂ e₃ e₄ e₅ e₆ e₇ =
+turn-stored t at l l₁ l₂ l₃ l₄ l₅ l₆ l₇ l₈ e₁ e₂ e₃ e₄ e₅ e₆ e₇ e₈ =
     let w₁ = stored-word 4 (t .aru .0) l₁ (stored-none l at) e₁ in
     let w₂ = stored-word 4 (t .earlier .0) l₂ w₁ e₂ in
     let w₃ = stored-word 4 (t .number .0) l₃ w₂ e₃ in
     let w₄ = stored-word 1 (t .broadcast) l₄ w₃ e₄ in
     let w₅ = stored-word 1 (t .stall) l₅ w₄ e₅ in
-    let w₆ = stored-word 1 (t .size) l₆ w₅ e₆ in
-    let w₇ = stored-next (length (t .token)) (t .token) l₇ w₆ refl e₇ in
-    w₇ .is
+    let w₆ = stored-word 1 (t .waited) l₆ w₅ e₆ in
+    let w₇ = stored-word 1 (t .size) l₇ w₆ e₇ in
+    let w₈ = stored-next (length (t .token)) (t .token) l₈ w₇ refl e₈ in
+    w₈ .is
 
 pub posts-stored : (p : PostsHead) (at : ℕ) (l l₁ l₂ l₃ : List ℕ)
     → length (p .services) ≡ mostPosts

@@ -75,6 +75,7 @@ pub record TurnRange (t : Turn) : Type 0 where
   pub number : t .number .0 ≤ mostNumber
   pub broadcast : t .broadcast ≤ mostBroadcasts
   pub stall : t .stall ≤ mostStall
+  pub waited : t .waited ≤ mostPosts
   pub size : t .size ≤ longestToken
 
 pub turn-range : (t : Turn) → turnInRange t ≡ true → TurnRange t
@@ -87,6 +88,7 @@ turn-range t e =
       number = leb-true (t .number .0) mostNumber (part e (λ (f : leb (t .number .0) mostNumber ≡ false). simp (f, and-false)));
       broadcast = leb-true (t .broadcast) mostBroadcasts (part e (λ (f : leb (t .broadcast) mostBroadcasts ≡ false). simp (f, and-false)));
       stall = leb-true (t .stall) mostStall (part e (λ (f : leb (t .stall) mostStall ≡ false). simp (f, and-false)));
+      waited = leb-true (t .waited) mostPosts (part e (λ (f : leb (t .waited) mostPosts ≡ false). simp (f, and-false)));
       size = leb-true (t .size) longestToken (part e (λ (f : leb (t .size) longestToken ≡ false). simp (f, and-false)));
     }
 

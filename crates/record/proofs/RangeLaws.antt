@@ -68,6 +68,7 @@ pub turn-tested : (t : Turn) → length (t .token) ≡ longestToken → t .stall
     && leb (t .earlier .0) mostNumber
     && leb (t .number .0) mostNumber
     && leb (t .broadcast) mostBroadcasts
+    && leb (t .waited) mostPosts
     && leb (t .size) longestToken)
     ≡ turnInRange t
 unfolding turnInRange

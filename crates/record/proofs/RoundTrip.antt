@@ -11,7 +11,7 @@ use Rattle.words.proofs.WordLaws.{bytes-drop, length-word, word-back, word-spli
 use Rattle.words.proofs.RunLaws.{words-there, words-back}
 use Rattle.frames.specs.Layout.{longestToken}
 use Rattle.record.specs.Size.{mostMembers, mostHeld, mostPosts, heldContents, postContents}
-use Rattle.record.specs.Layout.{ownAt, logAt, turnAt, postsAt, recordSize, logRingAt, memberCountAt, membersAt, levelAt, safeAt, deliveredAt, heldMessagesAt, logSize, sendersAt, heldServicesAt, heldLengthsAt, heldContentsAt, heldSize, turnAruAt, earlierAt, turnNumberAt, broadcastAt, stallAt, tokenSizeAt, tokenAt, turnSize, postCountAt, postServicesAt, postLengthsAt, postContentsAt, postsSize}
+use Rattle.record.specs.Layout.{ownAt, logAt, turnAt, postsAt, recordSize, logRingAt, memberCountAt, membersAt, levelAt, safeAt, deliveredAt, heldMessagesAt, logSize, sendersAt, heldServicesAt, heldLengthsAt, heldContentsAt, heldSize, turnAruAt, earlierAt, turnNumberAt, broadcastAt, stallAt, waitedAt, tokenSizeAt, tokenAt, turnSize, postCountAt, postServicesAt, postLengthsAt, postContentsAt, postsSize}
 use Rattle.record.specs.Bytes.{bytesAt, heldBytes, heldOf, logBytes, logOf, turnBytes, turnOf, postsBytes, postsOf, recordBytes, recordOf}
 use Rattle.record.specs.Parts.{withPosts}
 use Rattle.record.specs.RoundTrip.{BytesRestored, RecordRestored}
@@ -65,9 +65,10 @@ turn-there s b h =
     let w₃ = word-split 4 s turnNumberAt b (omega arith) in
     let w₄ = word-split 1 s broadcastAt b (omega arith) in
     let w₅ = word-split 1 s stallAt b (omega arith) in
-    let w₆ = word-split 1 s tokenSizeAt b (omega arith) in
-    let w₇ = bytes-split longestToken s tokenAt in
-    simp append-assoc (rw (w₇, w₆, w₅, w₄, w₃, w₂) w₁)
+    let w₆ = word-split 1 s waitedAt b (omega arith) in
+    let w₇ = word-split 1 s tokenSizeAt b (omega arith) in
+    let w₈ = bytes-split longestToken s tokenAt in
+    simp append-assoc (rw (w₈, w₇, w₆, w₅, w₄, w₃, w₂) w₁)
 
 posts-there : (s : List ℕ) → Bytes s → postsSize ≤ length s → postsBytes (postsOf s) ++ drop postsSize s ≡ s
 unfolding postsBytes postsOf
@@ -169,16 +170,17 @@ log-back l s rest fits e =
 turn-back : (t : Turn) (s rest : List ℕ) → TurnFits t → s ≡ turnBytes t ++ rest → turnOf s ≡ t
 unfolding turnBytes turnOf
 turn-back t s rest fits e =
-    let after = wordBytes 1 (t .broadcast) ∷ wordBytes 1 (t .stall) ∷ wordBytes 1 (t .size) ∷ t .token ∷ [] in
+    let after = wordBytes 1 (t .broadcast) ∷ wordBytes 1 (t .stall) ∷ wordBytes 1 (t .waited) ∷ wordBytes 1 (t .size) ∷ t .token ∷ [] in
     let all : Left s turnAruAt (wordBytes 4 (t .aru .0) ∷ wordBytes 4 (t .earlier .0) ∷ wordBytes 4 (t .number .0) ∷ after) rest = record { is = e ∙ simp append-assoc } in
     let f₁ = word-first 4 (t .aru .0) all (fits .aru) in
     let f₂ = word-first 4 (t .earlier .0) (f₁ .1) (fits .earlier) in
     let f₃ = word-first 4 (t .number .0) (f₂ .1) (fits .number) in
     let f₄ = word-first 1 (t .broadcast) (f₃ .1) (fits .broadcast) in
     let f₅ = word-first 1 (t .stall) (f₄ .1) (fits .stall) in
-    let f₆ = word-first 1 (t .size) (f₅ .1) (fits .size) in
-    let f₇ = bytes-first longestToken (f₆ .1) (fits .token) in
-    rw (f₁ .0, f₂ .0, f₃ .0, f₄ .0, f₅ .0, f₆ .0, f₇ .0)
+    let f₆ = word-first 1 (t .waited) (f₅ .1) (fits .waited) in
+    let f₇ = word-first 1 (t .size) (f₆ .1) (fits .size) in
+    let f₈ = bytes-first longestToken (f₇ .1) (fits .token) in
+    rw (f₁ .0, f₂ .0, f₃ .0, f₄ .0, f₅ .0, f₆ .0, f₇ .0, f₈ .0)
 
 posts-back : (p : Posts) (s rest : List ℕ) → PostsFits p → s ≡ postsBytes p ++ rest → postsOf s ≡ p
 unfolding postsBytes postsOf

@@ -11,7 +11,7 @@ use Rattle.words.specs.Scan.{allZero}
 use Rattle.frames.specs.Number.{mostNumber, mostId}
 use Rattle.frames.specs.Layout.{longestToken}
 use Rattle.frames.proofs.Facts.{part}
-use Rattle.record.specs.Size.{mostMembers, mostBroadcasts, mostStall}
+use Rattle.record.specs.Size.{mostMembers, mostBroadcasts, mostPosts, mostStall}
 use Rattle.record.specs.Held.{holds}
 use Rattle.record.specs.Members.{foundable}
 use Rattle.record.specs.Ring.{ids}
@@ -150,6 +150,7 @@ turn-in-range t r =
       le-leb (t .number .0) mostNumber (r .number),
       le-leb (t .broadcast) mostBroadcasts (r .broadcast),
       le-leb (t .stall) mostStall (r .stall),
+      le-leb (t .waited) mostPosts (r .waited),
       le-leb (t .size) longestToken (r .size),
     )
 

@@ -7,7 +7,7 @@ use Rattle.words.specs.Word.{wordAt, wordBytes}
 use Rattle.words.specs.Run.{words, wordsBytes}
 use Rattle.frames.specs.Layout.{longestToken}
 use Rattle.record.specs.Size.{mostMembers, mostHeld, mostPosts, heldContents, postContents}
-use Rattle.record.specs.Layout.{ownAt, logAt, turnAt, postsAt, logRingAt, memberCountAt, membersAt, levelAt, safeAt, deliveredAt, heldMessagesAt, sendersAt, heldServicesAt, heldLengthsAt, heldContentsAt, turnAruAt, earlierAt, turnNumberAt, broadcastAt, stallAt, tokenSizeAt, tokenAt, postCountAt, postServicesAt, postLengthsAt, postContentsAt}
+use Rattle.record.specs.Layout.{ownAt, logAt, turnAt, postsAt, logRingAt, memberCountAt, membersAt, levelAt, safeAt, deliveredAt, heldMessagesAt, sendersAt, heldServicesAt, heldLengthsAt, heldContentsAt, turnAruAt, earlierAt, turnNumberAt, broadcastAt, stallAt, waitedAt, tokenSizeAt, tokenAt, postCountAt, postServicesAt, postLengthsAt, postContentsAt}
 use Rattle.record.specs.declared.log.Held.{Held}
 use Rattle.record.specs.declared.log.Log.{Log}
 use Rattle.record.specs.declared.turn.Turn.{Turn}
@@ -65,6 +65,7 @@ turnBytes t =
     ++ wordBytes 4 (t .number .0)
     ++ wordBytes 1 (t .broadcast)
     ++ wordBytes 1 (t .stall)
+    ++ wordBytes 1 (t .waited)
     ++ wordBytes 1 (t .size)
     ++ t .token
 
@@ -76,6 +77,7 @@ turnOf s =
       number = record { 0 = wordAt 4 s turnNumberAt };
       broadcast = wordAt 1 s broadcastAt;
       stall = wordAt 1 s stallAt;
+      waited = wordAt 1 s waitedAt;
       size = wordAt 1 s tokenSizeAt;
       token = bytesAt longestToken s tokenAt;
     }

@@ -43,6 +43,7 @@ freshTurn =
       number = record { 0 = 0 };
       broadcast = 0;
       stall = 0;
+      waited = 0;
       size = 0;
       token = replicate longestToken 0;
     }

@@ -64,8 +64,11 @@ broadcastAt = turnNumberAt + 4
 abbrev pub stallAt : ℕ
 stallAt = broadcastAt + 1
 
+abbrev pub waitedAt : ℕ
+waitedAt = stallAt + 1
+
 abbrev pub tokenSizeAt : ℕ
-tokenSizeAt = stallAt + 1
+tokenSizeAt = waitedAt + 1
 
 abbrev pub tokenAt : ℕ
 tokenAt = tokenSizeAt + 1

@@ -56,6 +56,7 @@ turnInRange t =
     && leb (t .number .0) mostNumber
     && leb (t .broadcast) mostBroadcasts
     && leb (t .stall) mostStall
+    && leb (t .waited) mostPosts
     && leb (t .size) longestToken
 
 unfoldable pub postsInRange : Posts → Bool

@@ -53,6 +53,7 @@ fn fresh_turn() -> Turn
         number: TokenNumber(0),
         broadcast: 0,
         stall: 0,
+        waited: 0,
         size: 0,
         token: [0u8; frames::LONGEST_TOKEN],
     }

@@ -41,7 +41,9 @@ pub const BROADCAST_AT: usize = TURN_NUMBER_AT + 4;
 
 pub const STALL_AT: usize = BROADCAST_AT + 1;
 
-pub const TOKEN_SIZE_AT: usize = STALL_AT + 1;
+pub const WAITED_AT: usize = STALL_AT + 1;
+
+pub const TOKEN_SIZE_AT: usize = WAITED_AT + 1;
 
 pub const TOKEN_AT: usize = TOKEN_SIZE_AT + 1;
 

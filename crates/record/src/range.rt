@@ -64,6 +64,7 @@ pub fn turn_in_range(t: Turn) -> bool
         & (t.earlier.0 <= frames::MOST_NUMBER)
         & (t.number.0 <= frames::MOST_NUMBER)
         & (t.broadcast as usize <= size::MOST_BROADCASTS)
+        & (t.waited as usize <= size::MOST_POSTS)
         & (t.size as usize <= frames::LONGEST_TOKEN)
 }
 

@@ -17,4 +17,6 @@ pub struct Turn {
     pub broadcast: u8,
     // The paper's my_aru_count.
     pub stall: u8,
+    // How many posts waited here when it forwarded the token: its own part of the token's backlog.
+    pub waited: u8,
 }

@@ -22,6 +22,7 @@ pub fn get_turn(s: &[u8]) -> Turn
         number: TokenNumber(words::get_u32(s, layout::TURN_NUMBER_AT)),
         broadcast: words::get_u8(s, layout::BROADCAST_AT),
         stall: words::get_u8(s, layout::STALL_AT),
+        waited: words::get_u8(s, layout::WAITED_AT),
         size: words::get_u8(s, layout::TOKEN_SIZE_AT),
         token,
     }
@@ -37,6 +38,7 @@ pub fn put_turn(out: &mut [u8], at: usize, t: Turn)
     words::put_u32(out, at + layout::TURN_NUMBER_AT, t.number.0);
     words::put_u8(out, at + layout::BROADCAST_AT, t.broadcast);
     words::put_u8(out, at + layout::STALL_AT, t.stall);
+    words::put_u8(out, at + layout::WAITED_AT, t.waited);
     words::put_u8(out, at + layout::TOKEN_SIZE_AT, t.size);
     words::put_bytes(out, at + layout::TOKEN_AT, &token);
 }

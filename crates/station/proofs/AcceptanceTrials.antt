@@ -25,7 +25,7 @@ use Rattle.visit.specs.Level.{reached, levelOf, raised}
 use Rattle.visit.specs.Deliver.{frameWith, takeWhile, due, delivered}
 use Rattle.visit.specs.Message.{isHad, logWithMessage, resendEnded}
 use Rattle.station.specs.Arrive.{messageHeard}
-use Rattle.visit.specs.Visit.{others, allowance, requests, repeats, unanswered, newCount, withSent, newNumbers, highest′, logNow, setsAru, aru′, blocker′, stall′, deaf, safe′, missing, requests′, broadcasts, round′, nextIn, token′, turn′, log′, rec′, written}
+use Rattle.visit.specs.Visit.{others, roundAllowance, othersBacklog, share, allowance, requests, repeats, unanswered, newCount, withSent, newNumbers, highest′, logNow, setsAru, aru′, blocker′, stall′, deaf, safe′, missing, requests′, broadcasts, round′, waits′, backlog′, nextIn, token′, turn′, log′, rec′, written}
 use Rattle.station.specs.Arrive.{accepted}
 use Rattle.visit.specs.Acceptable.{coversHeld}
 use Rattle.station.specs.Arrive.{messageArrived, tokenArrived, arrived}
@@ -37,7 +37,7 @@ use Rattle.station.specs.trials.Trials.{calling, table}
 
 -- opens all that a row computes with
 unfoldable pub opened : List Trial → Bool
-unfolding flatten wordBytes wordOf wordAt words wordsBytes every headerOf headerFollows headerBytes messageOf messageFollows messageFixed numbersIn numbered requestsOf requestsFollow tokenOf tokenFollows tokenFixed blankToken readMessage readToken readOf firstBytes everyFrom holds heldNumbers heldWith cleared clearedFrom letGo postsFrom queued taken idsFollow foundable thisRing tokenMembers tokenPasses freshHeld membersPlaced freshLog freshTurn freshPosts fresh heldInRange numbersInRange logInRange turnInRange postsInRange sendersAreMembers resendPasses marksInOrder arusReached heldToLevel nextNotHeld contentsPadded freePlacesZero logUnusedZero postsUnusedZero turnUnusedZero logWhole turnWhole postsWhole whole firstToken founded posted resent reached levelOf raised frameWith takeWhile due delivered isHad logWithMessage resendEnded messageHeard others allowance those requests repeats unanswered newCount withSent numbersAfter newNumbers highest′ logNow setsAru aru′ blocker′ stall′ deaf safe′ missing requests′ broadcasts round′ nextIn token′ turn′ log′ rec′ written accepted coversHeld messageArrived tokenArrived arrived framesUpTo framesIn sendersTo loadedWith allPass
+unfolding flatten wordBytes wordOf wordAt words wordsBytes every headerOf headerFollows headerBytes messageOf messageFollows messageFixed numbersIn numbered requestsOf requestsFollow tokenOf tokenFollows tokenFixed blankToken readMessage readToken readOf firstBytes everyFrom holds heldNumbers heldWith cleared clearedFrom letGo postsFrom queued taken idsFollow foundable thisRing tokenMembers tokenPasses freshHeld membersPlaced freshLog freshTurn freshPosts fresh heldInRange numbersInRange logInRange turnInRange postsInRange sendersAreMembers resendPasses marksInOrder arusReached heldToLevel nextNotHeld contentsPadded freePlacesZero logUnusedZero postsUnusedZero turnUnusedZero logWhole turnWhole postsWhole whole firstToken founded posted resent reached levelOf raised frameWith takeWhile due delivered isHad logWithMessage resendEnded messageHeard others roundAllowance othersBacklog share allowance those requests repeats unanswered newCount withSent numbersAfter newNumbers highest′ logNow setsAru aru′ blocker′ stall′ deaf safe′ missing requests′ broadcasts round′ waits′ backlog′ nextIn token′ turn′ log′ rec′ written accepted coversHeld messageArrived tokenArrived arrived framesUpTo framesIn sendersTo loadedWith allPass
 opened rows = allPass rows
 
 calling-pass : allPass calling ≡ true

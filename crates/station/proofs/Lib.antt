@@ -12,6 +12,7 @@ pub mod ResendLaws
 pub mod ReplyGood
 pub mod ArrivedCases
 pub mod ArrivedFits
+pub mod ArrivedFair
 pub mod ArriveLaws
 pub mod ArrivedGood
 pub mod ThereLaws

@@ -26,6 +26,7 @@ firstToken ids ring =
       aru = record { 0 = 0 };
       blocker = Nobody;
       round = 0;
+      backlog = 0;
       count = 0;
       requests = replicate mostRequests (record { 0 = 0 });
     }

@@ -9,4 +9,5 @@ pub mod Over
 pub mod inner
 pub mod EveryReply
 pub mod EveryArrival
+pub mod Fair
 pub mod trials

@@ -21,7 +21,7 @@ use Rattle.station.specs.declared.answer.Answer.the-variants.{Founded}
 unfoldable pub idsIn : List ℕ → List ℕ
 idsIn s = cond (eqb (length s % 2) 0) (words 2 (length s / 2) s) []
 
--- founding on a list of ids. There is no record before it; 1 asks here for the record's length and 30 bytes for the token
+-- founding on a list of ids. There is no record before it; 1 asks here for the record's length and 32 bytes for the token
 unfoldable pub foundIn : List ℕ → List ℕ → ℕ → ℕ → ℕ → Reply
 foundIn s ids own ring room = founded noRecord (leb recordSize (length s) && leb shortestToken room) ids own ring
 

@@ -39,6 +39,7 @@ fn first_token(ids: &[u16], ring: RingNumber) -> Token
         aru: MessageNumber(0),
         blocker: Blocker::Nobody,
         round: 0,
+        backlog: 0,
         count: 0,
         requests: [MessageNumber(0); frames::MOST_REQUESTS],
     }

@@ -10,7 +10,7 @@ use lib.ListN.{length, take, replicate, length-take, length-replicate}
 use lib.Dec.{ltb, eqb}
 use Rattle.words.specs.Scan.{lacks}
 use Rattle.frames.specs.Number.{mostNumber}
-use Rattle.frames.specs.Layout.{mostRound, mostRequests, longestToken, tokenSize}
+use Rattle.frames.specs.Layout.{mostRound, mostBacklog, mostRequests, longestToken, tokenSize}
 use Rattle.frames.specs.Token.{numbered, requestNumbers, tokenFollows, tokenBytes}
 use Rattle.frames.specs.Write.{writingOf, tokenWritten, tokenPut}
 use Rattle.frames.proofs.WriteLaws.{token-put}
@@ -23,7 +23,7 @@ use Rattle.record.specs.inner.Head.{logOn, headOf}
 use Rattle.record.specs.Held.{holds}
 use Rattle.record.specs.declared.turn.Turn.{Turn}
 use Rattle.visit.specs.Deliver.{ringHeader}
-use Rattle.visit.specs.Visit.{Visit, log, own, turn, others, requests, unanswered, newCount, highest′, logNow, isNobody, isOwn, setsAru, aru′, blocker′, deafAbove, stall′, deaf, safe′, missing, requests′, broadcasts, round′, nextMember, token′, turn′}
+use Rattle.visit.specs.Visit.{Visit, log, own, turn, others, waits, othersBacklog, requests, unanswered, newCount, highest′, logNow, isNobody, isOwn, setsAru, aru′, blocker′, deafAbove, stall′, deaf, safe′, missing, requests′, broadcasts, round′, waits′, backlog′, nextMember, token′, turn′}
 use Rattle.record.specs.Count.{those, numbersAfter}
 use Rattle.visit.specs.Acceptable.{Acceptable}
 use Rattle.visit.specs.inner.Steps.{listed, listIn, sentOf, reachAfter, reachOf, forwardedOf}
@@ -34,7 +34,7 @@ use Rattle.visit.proofs.EachLaws.{those-length}
 use Rattle.visit.proofs.ListedLaws.{list-of-listed, count-of-listed}
 use Rattle.visit.proofs.RequestLaws.{few-requests}
 use Rattle.visit.proofs.TokenLaws.{token-follows, token-long, token-short}
-use Rattle.visit.proofs.VisitFacts.{facts, token-good, few-broadcasts, highest-most, now-good}
+use Rattle.visit.proofs.VisitFacts.{facts, token-good, few-left, new-posts, few-broadcasts, highest-most, now-good}
 
 -- a choice between two numbers
 cond-number : (b : Bool) (x y : MessageNumber) → cond b x y ≡ record { 0 = cond b (x .0) (y .0) }
@@ -140,11 +140,24 @@ module _ (v : Visit) (a : Acceptable v) where
     pub round-fits : (n : ℕ) → n ≡ v .token .round - turn v .broadcast → n + b .count ≤ 100000
     round-fits n e = omega (arith, sent-count, broadcasts-fit, token-good v a .round)
 
-    pub token-made : (header : Header) (addressee others-count round : ℕ) (r : Reach) (asked : Requests) (places : List MessageNumber)
+    pub backlog-fits : (n waits-now : ℕ) → n ≡ v .token .backlog - turn v .waited → waits-now ≡ waits′ v → n + waits-now ≤ 100000
+    backlog-fits n waits-now e w = omega (arith, few-left v a, token-good v a .backlog)
+
+    pub added-waited : b .added ≤ waits v
+    added-waited = omega (arith, sent-added, new-posts v)
+
+    pub left-waiting : (n : ℕ) → n ≡ waits v - b .added → n ≡ waits′ v
+    unfolding waits′
+    left-waiting n e = e ∙ rw sent-added
+
+    pub token-made : (header : Header) (addressee others-count round backlog-count waits-now backlog : ℕ) (r : Reach) (asked : Requests) (places : List MessageNumber)
         → header ≡ ringHeader (log v)
         → addressee ≡ nextMember (take (log v .count - 0) (log v .members)) (own v)
         → others-count ≡ v .token .round - turn v .broadcast
         → round ≡ min (others-count + b .count) mostRound
+        → backlog-count ≡ v .token .backlog - turn v .waited
+        → waits-now ≡ waits′ v
+        → backlog ≡ min (backlog-count + waits-now) mostBacklog
         → r ≡ reachOf v
         → asked ≡ listed (requests′ v)
         → places ≡ numbered (asked .numbers)
@@ -156,13 +169,14 @@ module _ (v : Visit) (a : Acceptable v) where
           aru = r .aru;
           blocker = r .blocker;
           round = round;
+          backlog = backlog;
           count = asked .count;
           requests = places;
         }
         ≡ token′ v
-    unfolding token′ reachOf listed round′ others
-    token-made header addressee others-count round r asked places h d o n e f p =
-        rw (h, d, n, o, sent-count, sent-highest, e, p, f, sub-zero)
+    unfolding token′ reachOf listed round′ others backlog′ othersBacklog
+    token-made header addressee others-count round backlog-count waits-now backlog r asked places h d o n q w m e f p =
+        rw (h, d, n, o, m, q, w, sent-count, sent-highest, e, p, f, sub-zero)
 
   module _ (token : Token) (is : token ≡ token′ v) where
     pub size-fits : (size : ℕ) → size ≡ tokenSize (token .count) → size ≤ longestToken
@@ -174,28 +188,30 @@ module _ (v : Visit) (a : Acceptable v) where
         let long : length zeros ≡ longestToken = length-replicate {A = ℕ} longestToken 0 in
         token-put token zeros (rw is (token-follows v a)) (omega (arith, long, size-fits (tokenSize (token .count)) refl))
 
-    pub turn-made : (bytes : List ℕ) (size count stall : ℕ)
+    pub turn-made : (bytes : List ℕ) (size count stall waits-now : ℕ)
         → bytes ≡ tokenPut token (replicate longestToken 0)
         → size ≡ tokenSize (token .count)
         → count ≡ sentOf v .count
         → stall ≡ stall′ v
+        → waits-now ≡ waits′ v
         → record {
           aru = token .aru;
           earlier = turn v .aru;
           number = token .number;
           broadcast = count;
           stall = stall;
+          waited = waits-now;
           size = size;
           token = bytes;
         }
         ≡ turn′ v
     unfolding turn′ writingOf sentOf
-    turn-made bytes size count stall e f g h =
+    turn-made bytes size count stall waits-now e f g h w =
         let frame = tokenBytes (token′ v) in
         let put : bytes ≡ frame ++ replicate (longestToken - length frame) 0 =
         rw (is, token-follows v a, le-leb (length frame) longestToken (token-short v a), drop-replicate longestToken (length frame)) at (e ∙ token-written) in
         let long : size ≡ length frame = f ∙ rw (is, token-long v a, token-count) in
-        rw (put, long, g, h, is, token-aru, token-number)
+        rw (put, long, g, h, w, is, token-aru, token-number)
 
   -- ---- steps 5 and 6, and all of it
 

@@ -15,6 +15,7 @@ pub mod NewLaws
 pub mod HoldNew
 pub mod NewWhole
 pub mod VisitFacts
+pub mod ShareLaws
 pub mod ListedLaws
 pub mod RequestLaws
 pub mod CirculationLaws

@@ -100,6 +100,7 @@ ended-good ring members before level t g rises =
             number = r .number;
             broadcast = r .broadcast;
             stall = r .stall;
+            waited = r .waited;
             size = omega arith;
           };
       aru = omega (arith, g .aru);

@@ -9,7 +9,7 @@ use lib.ListN.{length, getD, replicate, length-append}
 use lib.Dec.{ltb, eqb}
 use Rattle.words.specs.Scan.{every, lacks}
 use Rattle.frames.specs.Number.{mostNumber, isNumber, isId}
-use Rattle.frames.specs.Layout.{mostRound, mostRequests, longestToken, tokenSize}
+use Rattle.frames.specs.Layout.{mostRound, mostBacklog, mostRequests, longestToken, tokenSize}
 use Rattle.frames.specs.Token.{blockerFollows, tokenFollows, tokenBytes}
 use Rattle.frames.specs.Read.{readOf, aToken}
 use Rattle.frames.specs.declared.token.Blocker.{Blocker}
@@ -20,13 +20,13 @@ use Rattle.frames.proofs.Restored.{token-restored}
 use Rattle.frames.proofs.Sizes.{token-length}
 use Rattle.record.specs.Members.{isMember, representative}
 use Rattle.record.specs.Ring.{ids, thisRing, blockerMember, tokenMembers, tokenPasses}
-use Rattle.visit.specs.Visit.{Visit, log, own, highest′, level′, ownOrNobody, setsAru, aru′, blocker′, requests′, round′, nextIn, nextMember, token′}
+use Rattle.visit.specs.Visit.{Visit, log, own, highest′, level′, ownOrNobody, setsAru, aru′, blocker′, requests′, round′, backlog′, nextIn, nextMember, token′}
 use Rattle.visit.specs.Reads.{Each}
 use Rattle.visit.specs.Acceptable.{Acceptable}
 use Rattle.visit.proofs.LevelLaws.{not-both, neither}
 use Rattle.visit.proofs.EachLaws.{each-map}
 use Rattle.visit.proofs.RingFacts.{founded-facts, ring-header, member-id, own-id}
-use Rattle.visit.proofs.VisitFacts.{facts, token-good, round-most, highest-most, level-most′}
+use Rattle.visit.proofs.VisitFacts.{facts, token-good, round-most, backlog-most, highest-most, level-most′}
 use Rattle.visit.proofs.RequestLaws.{few-requests, requests-follow}
 
 -- ---- the member after one
@@ -132,6 +132,7 @@ module _ (v : Visit) (a : Acceptable v) where
         le-leb (aru′ v) (highest′ v) (blocker-good .low),
         blocker-good .follows,
         le-leb (round′ v) mostRound (round-most v),
+        le-leb (backlog′ v) mostBacklog (backlog-most v),
         requests-follow v a,
       )
 

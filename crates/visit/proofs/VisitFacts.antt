@@ -1,20 +1,20 @@
 -- What an acceptable visit tells: its counts, and what is held once the new messages are.
-use Prim.Native.Nat.{ℕ, _+_, _-_, _<_, _≤_}
+use Prim.Native.Nat.{ℕ, _+_, _-_, _<_, _≤_, min}
 use mathlib.Core.Path.{_≡_, sym, ap, _∙_}
-use mathlib.Core.Bool.{true, false, and-false}
+use mathlib.Core.Bool.{true, false, and-false, Bool, cond}
 use mathlib.Core.List.{List}
 use borrow.Author.Tests.{leb-true}
 use native.Mathlib.Decide.{decLt}
 use native.Mathlib.Omega.{arith}
 use lib.ListN.{length, take, length-take}
-use lib.Dec.{leb}
+use lib.Dec.{leb, eqb}
 use lib.Seq.{length-take-le}
 use Rattle.words.specs.Scan.{allWithin}
 use Rattle.frames.specs.Number.{mostNumber}
-use Rattle.frames.specs.Layout.{mostContent, mostRound}
+use Rattle.frames.specs.Layout.{mostContent, mostRound, mostBacklog}
 use Rattle.frames.specs.Token.{requestNumbers}
 use Rattle.frames.proofs.Facts.{part, TokenFacts, token-facts}
-use Rattle.record.specs.Size.{mostHeld, mostBroadcasts}
+use Rattle.record.specs.Size.{mostHeld, mostBroadcasts, mostPosts}
 use Rattle.record.specs.Held.{holds, heldNumbers, logWith}
 use Rattle.record.specs.Posts.{Post, waiting}
 use Rattle.record.specs.Ring.{ids}
@@ -28,7 +28,7 @@ use Rattle.record.proofs.RangeFacts.{posts-range}
 use Rattle.record.proofs.WholeFacts.{LogGood, RecordGood, whole-good}
 use Rattle.visit.specs.Level.{levelOf, raised}
 use Rattle.visit.specs.Deliver.{ringHeader}
-use Rattle.visit.specs.Visit.{Visit, log, own, posts, allowance, requests, repeats, newCount, sentBy, withSent, highest′, logNow, level′, broadcasts, round′}
+use Rattle.visit.specs.Visit.{Visit, log, own, posts, mostNew, mostInRound, others, roundAllowance, waits, othersBacklog, share, allowance, requests, repeats, newCount, sentBy, withSent, highest′, logNow, level′, broadcasts, round′, waits′, backlog′}
 use Rattle.visit.specs.Acceptable.{coversHeld}
 use Rattle.visit.specs.Reads.{Each}
 use Rattle.visit.specs.Acceptable.{Acceptable}
@@ -58,9 +58,16 @@ module _ (v : Visit) where
   unfolding newCount
   new-numbers = omega arith
 
+  few-allowed : allowance v ≤ mostNew
+  unfolding allowance roundAllowance
+  few-allowed = go (eqb (waits v) 0)
+    where
+      go : (b : Bool) → cond b (min mostNew (mostInRound - others v)) (min (min mostNew (mostInRound - others v)) (share (othersBacklog v) (waits v))) ≤ mostNew
+      go true = omega arith
+      go false = omega arith
+
   pub few-new : newCount v ≤ 8 - length (repeats v)
-  unfolding allowance
-  few-new = omega (arith, new-allowed)
+  few-new = omega (arith, new-allowed, few-allowed)
 
   pub few-repeats : length (repeats v) ≤ v .token .count
   unfolding repeats requests
@@ -73,12 +80,23 @@ module _ (v : Visit) where
   unfolding round′
   round-most = omega arith
 
+  pub backlog-most : backlog′ v ≤ mostBacklog
+  unfolding backlog′
+  backlog-most = omega arith
+
 module _ (v : Visit) (a : Acceptable v) where
   pub facts : RecordGood (v .rec)
   facts = whole-good (v .rec) (a .whole-record)
 
   pub token-good : TokenFacts (v .token)
   token-good = token-facts (v .token) (a .follows)
+
+  pub few-wait : waits v ≤ mostPosts
+  few-wait = posts-range (posts v) (facts .posts) .count
+
+  pub few-left : waits′ v ≤ mostPosts
+  unfolding waits′
+  few-left = omega (arith, few-wait)
 
   pub few-broadcasts : broadcasts v ≤ mostBroadcasts
   unfolding broadcasts

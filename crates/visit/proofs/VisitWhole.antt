@@ -23,7 +23,7 @@ use Rattle.record.proofs.WholeFacts.{LogGood, TurnGood, good-whole}
 use Rattle.visit.specs.Deliver.{due, delivered}
 use Rattle.visit.specs.Visit.{Visit, log, turn, posts, own, newCount, logNow, level′, ownOrNobody, setsAru, aru′, blocker′, isNobody, stall′, safe′, token′, turn′, log′, rec′}
 use Rattle.visit.specs.Acceptable.{Acceptable}
-use Rattle.visit.proofs.VisitFacts.{facts, new-posts, few-broadcasts, now-good, now-safe, now-ring, now-ids, level-rises}
+use Rattle.visit.proofs.VisitFacts.{few-left, facts, new-posts, few-broadcasts, now-good, now-safe, now-ring, now-ids, level-rises}
 use Rattle.visit.proofs.TokenLaws.{token-passes, token-short}
 use Rattle.visit.proofs.DueLaws.{due-least}
 use Rattle.visit.proofs.LogSteps.{level-window, delivered-good, let-go-log}
@@ -108,6 +108,7 @@ module _ (v : Visit) (a : Acceptable v) where
               number = omega (arith, a .not-last);
               broadcast = few-broadcasts v a;
               stall = stall-most;
+              waited = few-left v a;
               size = token-short v a;
             };
         aru = aru-level;

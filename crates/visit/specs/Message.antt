@@ -47,6 +47,7 @@ resendEnded t =
       number = t .number;
       broadcast = t .broadcast;
       stall = t .stall;
+      waited = t .waited;
       size = 0;
       token = replicate longestToken 0;
     }

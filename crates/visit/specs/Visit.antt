@@ -1,14 +1,14 @@
 -- A token is accepted: steps 1 to 9. [document 01, A token is accepted; the paper's Figure 3, 'regular token received']
 -- A visit is a record and the token that arrives. Every quantity is a function of the visit; a prime marks the value after it. In square
 -- brackets stands the paper's name. 'Not below 0' needs no word: `a - b` is 0 where b is the larger.
-use Prim.Native.Nat.{ℕ, suc, _+_, _-_, min, max}
+use Prim.Native.Nat.{ℕ, suc, _+_, _-_, _*_, _/_, min, max}
 use mathlib.Core.Bool.{Bool, true, false, not, _&&_, _||_, cond}
 use mathlib.Core.List.{List, [], _∷_, _++_, map}
 use lib.ListN.{length, getD, take, replicate}
 use lib.Dec.{ltb, eqb}
 use Rattle.words.specs.Scan.{lacks}
 use Rattle.frames.specs.Number.{mostNumber}
-use Rattle.frames.specs.Layout.{mostRound, mostRequests, longestToken}
+use Rattle.frames.specs.Layout.{mostRound, mostBacklog, mostRequests, longestToken}
 use Rattle.frames.specs.Token.{numbered, requestNumbers, tokenBytes}
 use Rattle.frames.specs.declared.token.Blocker.{Blocker}
 use Rattle.frames.specs.declared.token.Blocker.the-variants.{Nobody, Member}
@@ -45,7 +45,7 @@ posts v = v .rec .posts
 abbrev pub own : Visit → ℕ
 own v = v .rec .own
 
--- ---- 1. Others' count, and the allowance: flow control, from the token's round count [fcc]
+-- ---- 1. Others' count, others' backlog and the allowance: flow control, from the token's round count [fcc] and its backlog [document 02, Job 1]
 
 -- new messages of one visit [max_messages]
 abbrev pub mostNew : ℕ
@@ -58,8 +58,25 @@ mostInRound = 24
 unfoldable pub others : Visit → ℕ
 others v = v .token .round - turn v .broadcast
 
+-- what the round leaves
+unfoldable pub roundAllowance : Visit → ℕ
+roundAllowance v = min mostNew (mostInRound - others v)
+
+-- the posts that wait when the token comes [my_tbl]
+abbrev pub waits : Visit → ℕ
+waits v = posts v .count
+
+-- what waited at the others when each last forwarded the token [backlog - my_pbl]
+unfoldable pub othersBacklog : Visit → ℕ
+othersBacklog v = v .token .backlog - turn v .waited
+
+-- of the 24, the part that waits here of all that waits, rounded down; 1 if that gives 0 [section 8.2]
+unfoldable pub share : ℕ → ℕ → ℕ
+share others own = max 1 (mostInRound * own / (others + own))
+
+-- if a post waits, the share limits it further
 unfoldable pub allowance : Visit → ℕ
-allowance v = min mostNew (mostInRound - others v)
+allowance v = cond (eqb (waits v) 0) (roundAllowance v) (min (roundAllowance v) (share (othersBacklog v) (waits v)))
 
 -- ---- 2. Requests [rtr] whose message is held are broadcast, and struck off
 
@@ -78,7 +95,7 @@ unanswered v = those (λ n. not (holds (log v) n)) (requests v)
 unfoldable pub newCount : Visit → ℕ
 newCount v =
     min (allowance v - length (repeats v))
-    (min (posts v .count)
+    (min (waits v)
     (min (log v .safe .0 + mostHeld - v .token .highest .0)
     (mostNumber - v .token .highest .0)))
 
@@ -172,6 +189,13 @@ broadcasts v = length (repeats v) + newCount v
 unfoldable pub round′ : Visit → ℕ
 round′ v = min (others v + broadcasts v) mostRound
 
+-- the posts that wait afterwards: the station's own part of the backlog
+unfoldable pub waits′ : Visit → ℕ
+waits′ v = waits v - newCount v
+
+unfoldable pub backlog′ : Visit → ℕ
+backlog′ v = min (othersBacklog v + waits′ v) mostBacklog
+
 -- the member after `own` in circulation order; after the last comes the first
 unfoldable pub nextIn : ℕ → List ℕ → ℕ → ℕ
 nextIn first [] own = first
@@ -191,6 +215,7 @@ token′ v =
       aru = record { 0 = aru′ v };
       blocker = blocker′ v;
       round = round′ v;
+      backlog = backlog′ v;
       count = length (requests′ v);
       requests = numbered (requests′ v ++ replicate (mostRequests - length (requests′ v)) 0);
     }
@@ -204,6 +229,7 @@ turn′ v =
       number = record { 0 = v .token .number .0 + 1 };
       broadcast = broadcasts v;
       stall = stall′ v;
+      waited = waits′ v;
       size = length (tokenBytes (token′ v));
       token = tokenBytes (token′ v) ++ replicate (longestToken - length (tokenBytes (token′ v))) 0;
     }

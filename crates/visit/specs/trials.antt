@@ -2,3 +2,4 @@
 -- of the crate above.
 pub mod Sample
 pub mod Marks
+pub mod Shares

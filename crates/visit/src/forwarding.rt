@@ -1,7 +1,7 @@
 // Steps 4 to 8 of a visit: the token that is forwarded and remembered.
 ghost use mathlib.Core.Path.{_≡_};
 ghost use Rattle.record.specs.inner.Head.{recordIn};
-ghost use Rattle.visit.specs.Visit.{requests′, safe′, stall′, token′, turn′};
+ghost use Rattle.visit.specs.Visit.{requests′, safe′, stall′, waits′, token′, turn′};
 ghost use Rattle.visit.specs.Acceptable.{Acceptable, visit};
 ghost use Rattle.visit.specs.inner.Steps.{listed, sentOf, reachOf, forwardedOf};
 use crate::broadcasting::Sent;
@@ -39,12 +39,21 @@ fn requests_after(h: Head, s: &[u8], t: Token, b: Sent, safe: MessageNumber) -> 
 }
 
 // 8. The token.
-fn token_after(h: Head, s: &[u8], t: Token, b: Sent, reach: Reach, requests: Requests) -> Token
+fn token_after(
+    h: Head,
+    s: &[u8],
+    t: Token,
+    b: Sent,
+    reach: Reach,
+    requests: Requests,
+    waits: u32,
+) -> Token
     requires { ⌜
         Acceptable (visit (recordIn h (now s)) t)
         × (b ≡ sentOf (visit (recordIn h (now s)) t))
         × (reach ≡ reachOf (visit (recordIn h (now s)) t))
-        × (requests ≡ listed (requests′ (visit (recordIn h (now s)) t))) ⌝ }
+        × (requests ≡ listed (requests′ (visit (recordIn h (now s)) t)))
+        × (waits ≡ waits′ (visit (recordIn h (now s)) t)) ⌝ }
     ensures { λ r. ⌜ r ≡ token′ (visit (recordIn h (now (s .entry))) t) ⌝ }
 {
     let members = h.log.members;
@@ -60,19 +69,37 @@ fn token_after(h: Head, s: &[u8], t: Token, b: Sent, reach: Reach, requests: Req
         highest: MessageNumber(t.highest.0 + b.added),
         aru,
         blocker,
-        round: flow::round_after(flow::others(t.round, h.turn.broadcast), b.count),
+        round: flow::sum_after(
+            flow::others_part(t.round, h.turn.broadcast),
+            b.count,
+            frames::MOST_ROUND,
+        ),
+        backlog: flow::sum_after(
+            flow::others_part(t.backlog, h.turn.waited),
+            waits,
+            frames::MOST_BACKLOG,
+        ),
         count: requests.count,
         requests: places,
     }
 }
 
 // 8. The token is remembered, and may be resent.
-fn turn_after(h: Head, s: &[u8], t: Token, token: Token, broadcasts: u32, stall: u8) -> Turn
+fn turn_after(
+    h: Head,
+    s: &[u8],
+    t: Token,
+    token: Token,
+    broadcasts: u32,
+    stall: u8,
+    waits: u32,
+) -> Turn
     requires { ⌜
         Acceptable (visit (recordIn h (now s)) t)
         × (token ≡ token′ (visit (recordIn h (now s)) t))
         × (broadcasts ≡ sentOf (visit (recordIn h (now s)) t) .count)
-        × (stall ≡ stall′ (visit (recordIn h (now s)) t)) ⌝ }
+        × (stall ≡ stall′ (visit (recordIn h (now s)) t))
+        × (waits ≡ waits′ (visit (recordIn h (now s)) t)) ⌝ }
     ensures { λ r. ⌜ r ≡ turn′ (visit (recordIn h (now (s .entry))) t) ⌝ }
 {
     let mut bytes = [0u8; frames::LONGEST_TOKEN];
@@ -86,6 +113,7 @@ fn turn_after(h: Head, s: &[u8], t: Token, token: Token, broadcasts: u32, stall:
         number,
         broadcast: broadcasts as u8,
         stall,
+        waited: waits as u8,
         size: frames::token_size(token.count) as u8,
         token: bytes,
     }
@@ -103,8 +131,9 @@ pub fn forward(h: Head, s: &[u8], t: Token, b: Sent) -> Forwarded
     let stall = marks::stall_after(h.turn, reach.aru, blocker);
     let safe = marks::safe_after(h.log.safe, h.turn.aru, reach.aru);
     let requests = requests_after(h, s, t, b, safe);
-    let token = token_after(h, s, t, b, reach, requests);
-    let turn = turn_after(h, s, t, token, b.count, stall);
+    let waits = h.posts.count as u32 - b.added;
+    let token = token_after(h, s, t, b, reach, requests, waits);
+    let turn = turn_after(h, s, t, token, b.count, stall, waits);
     Forwarded {
         turn,
         safe,

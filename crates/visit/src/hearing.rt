@@ -85,6 +85,7 @@ fn resend_ended(t: Turn) -> Turn
         number,
         broadcast: t.broadcast,
         stall: t.stall,
+        waited: t.waited,
         size: 0,
         token: [0u8; frames::LONGEST_TOKEN],
     }

@@ -64,9 +64,9 @@ header ring = record { ring = record { 0 = ring }; representative = 3 }
 abbrev pub sampleMessage : ℕ → ℕ → Message
 sampleMessage n service = record { header = header 4; sender = 7; number = record { 0 = n }; service = service }
 
--- a token to 3: ring number, token number, highest, aru, blocker, round count, and a count of requests with its places
-abbrev pub tokenWith : ℕ → ℕ → ℕ → ℕ → Blocker → ℕ → ℕ → List ℕ → Token
-tokenWith ring n highest aru blocker round count requests =
+-- a token to 3: ring number, token number, highest, aru, blocker, round count, backlog, and a count of requests with its places
+abbrev pub tokenWith : ℕ → ℕ → ℕ → ℕ → Blocker → ℕ → ℕ → ℕ → List ℕ → Token
+tokenWith ring n highest aru blocker round backlog count requests =
     record {
       header = header ring;
       addressee = 3;
@@ -75,13 +75,14 @@ tokenWith ring n highest aru blocker round count requests =
       aru = record { 0 = aru };
       blocker = blocker;
       round = round;
+      backlog = backlog;
       count = count;
       requests = numbered (requests ++ replicate (mostRequests - length requests) 0);
     }
 
--- a token of ring 4 and number 1 with these requests: highest, aru, blocker, round count, requests
+-- a token of ring 4 and number 1 with backlog 0 and these requests: highest, aru, blocker, round count, requests
 abbrev pub sampleToken : ℕ → ℕ → Blocker → ℕ → List ℕ → Token
-sampleToken highest aru blocker round requests = tokenWith 4 1 highest aru blocker round (length requests) requests
+sampleToken highest aru blocker round requests = tokenWith 4 1 highest aru blocker round 0 (length requests) requests
 
 abbrev pub from1to : ℕ → List ℕ
 from1to zero = []
@@ -90,7 +91,7 @@ from1to (suc n) = from1to n ++ (suc n ∷ [])
 -- the first token of ring 4 with members 3 and 7, in hexadecimal as document 01 has it
 unfoldable pub firstBytes : List ℕ
 firstBytes =
-    0x1C ∷ 0x00 ∷ 0x02 ∷ 0x00 ∷ 0x04 ∷ 0x00 ∷ 0x00 ∷ 0x00 ∷ 0x03 ∷ 0x00 ∷ 0x03 ∷ 0x00 ∷ 0x01 ∷ 0x00 ∷ 0x00 ∷ 0x00 ∷ replicate 14 0x00
+    0x1E ∷ 0x00 ∷ 0x02 ∷ 0x00 ∷ 0x04 ∷ 0x00 ∷ 0x00 ∷ 0x00 ∷ 0x03 ∷ 0x00 ∷ 0x03 ∷ 0x00 ∷ 0x01 ∷ 0x00 ∷ 0x00 ∷ 0x00 ∷ replicate 16 0x00
 
 -- ---- the table
 
@@ -106,38 +107,40 @@ frameTrials =
     ∷ message (sampleMessage 2000000000 0) [] 0 22  -- the largest number
     ∷ message (sampleMessage 2000000001 0) [] 12 0  -- one more
     -- tokens
-    ∷ token (tokenWith 2000000000 1 0 0 Nobody 0 0 []) 0 30  -- ring number
-    ∷ token (tokenWith 2000000001 1 0 0 Nobody 0 0 []) 12 0
-    ∷ token (tokenWith 4 2000000000 0 0 Nobody 0 0 []) 0 30  -- token number
-    ∷ token (tokenWith 4 2000000001 0 0 Nobody 0 0 []) 12 0
-    ∷ token (sampleToken 2000000000 2000000000 Nobody 0 []) 0 30  -- highest
+    ∷ token (tokenWith 2000000000 1 0 0 Nobody 0 0 0 []) 0 32  -- ring number
+    ∷ token (tokenWith 2000000001 1 0 0 Nobody 0 0 0 []) 12 0
+    ∷ token (tokenWith 4 2000000000 0 0 Nobody 0 0 0 []) 0 32  -- token number
+    ∷ token (tokenWith 4 2000000001 0 0 Nobody 0 0 0 []) 12 0
+    ∷ token (sampleToken 2000000000 2000000000 Nobody 0 []) 0 32  -- highest
     ∷ token (sampleToken 2000000001 2000000001 Nobody 0 []) 12 0
-    ∷ token (sampleToken 10 5 (Member 7) 0 []) 0 30
+    ∷ token (sampleToken 10 5 (Member 7) 0 []) 0 32
     ∷ token (sampleToken 10 11 (Member 7) 0 []) 12 0  -- aru above the highest
     ∷ token (sampleToken 10 10 (Member 7) 0 []) 12 0  -- a blocker with aru equal to the highest
     ∷ token (sampleToken 10 9 Nobody 0 []) 12 0  -- nobody with aru below it
     ∷ token (sampleToken 10 5 (Member 0) 0 []) 12 0  -- a blocker with id 0
-    ∷ token (sampleToken 10 5 (Member 7) 128 []) 0 30  -- round count 128
+    ∷ token (sampleToken 10 5 (Member 7) 128 []) 0 32  -- round count 128
     ∷ token (sampleToken 10 5 (Member 7) 129 []) 12 0  -- 129
-    ∷ token (sampleToken 20 0 (Member 7) 0 (from1to 16)) 0 94  -- 16 requests
+    ∷ token (tokenWith 4 1 10 5 (Member 7) 0 128 0 []) 0 32  -- backlog 128
+    ∷ token (tokenWith 4 1 10 5 (Member 7) 0 129 0 []) 12 0  -- 129
+    ∷ token (sampleToken 20 0 (Member 7) 0 (from1to 16)) 0 96  -- 16 requests
     ∷ reads (tokenBytes (sampleToken 20 0 (Member 7) 0 (from1to 17))) 12  -- 17 in a frame
-    ∷ writes (tokenWritten (tokenWith 4 1 20 0 (Member 7) 0 17 (from1to 16)) room) 12  -- 17 counted in 16 places
-    ∷ writes (tokenWritten (tokenWith 4 1 20 0 (Member 7) 0 1 (6 ∷ 8 ∷ [])) room) 12  -- a place that is not counted and not zero
+    ∷ writes (tokenWritten (tokenWith 4 1 20 0 (Member 7) 0 0 17 (from1to 16)) room) 12  -- 17 counted in 16 places
+    ∷ writes (tokenWritten (tokenWith 4 1 20 0 (Member 7) 0 0 1 (6 ∷ 8 ∷ [])) room) 12  -- a place that is not counted and not zero
     ∷ token (sampleToken 10 5 (Member 7) 0 (6 ∷ 8 ∷ 6 ∷ [])) 12 0  -- a request twice
-    ∷ token (sampleToken 10 5 (Member 7) 0 (6 ∷ 10 ∷ [])) 0 38
+    ∷ token (sampleToken 10 5 (Member 7) 0 (6 ∷ 10 ∷ [])) 0 40
     ∷ token (sampleToken 10 5 (Member 7) 0 (6 ∷ 11 ∷ [])) 12 0  -- a request above the highest
     ∷ token (sampleToken 10 5 (Member 7) 0 (0 ∷ [])) 12 0  -- a request 0
     -- the buffer
-    ∷ writes (tokenWritten (sampleToken 0 0 Nobody 0 []) (replicate 29 0)) 1  -- one byte short
+    ∷ writes (tokenWritten (sampleToken 0 0 Nobody 0 []) (replicate 31 0)) 1  -- one byte short
     ∷ writes (tokenWritten (sampleToken 0 1 Nobody 0 []) []) 12  -- 12 goes before 1
     -- any bytes
     ∷ reads firstBytes 0
     ∷ reads [] 10
     ∷ reads (0x07 ∷ replicate 8 0x00) 10  -- under 10 bytes, though its length is exact
-    ∷ reads (take 29 firstBytes) 10  -- a byte short
+    ∷ reads (take 31 firstBytes) 10  -- a byte short
     ∷ reads (firstBytes ++ (0x00 ∷ [])) 10  -- a byte too many
     -- one byte of the first token, or of a message with no content, set to another
-    ∷ reads (set firstBytes 0 0x1D) 10  -- the length field
+    ∷ reads (set firstBytes 0 0x1F) 10  -- the length field
     ∷ reads (set firstBytes 2 0x03) 11  -- the kind
     ∷ reads (set firstBytes 4 0x00) 12  -- ring number 0
     ∷ reads (set firstBytes 8 0x00) 12  -- representative 0

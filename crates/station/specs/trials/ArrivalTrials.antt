@@ -2,6 +2,7 @@
 use Prim.Native.Nat.{ℕ}
 use mathlib.Core.List.{List, [], _∷_, _++_}
 use lib.ListN.{length, set, take}
+use Rattle.frames.specs.Token.{tokenBytes}
 use Rattle.frames.specs.trials.Trials.{from1to}
 use Rattle.frames.specs.declared.token.Blocker.the-variants.{Nobody, Member}
 use Rattle.record.specs.Held.{holds}
@@ -13,9 +14,9 @@ use Rattle.visit.specs.Deliver.{entryOf}
 use Rattle.station.specs.Post.{posted}
 use Rattle.station.specs.Resend.{resent}
 use Rattle.station.specs.Arrive.{arrived}
-use Rattle.visit.specs.trials.Sample.{Trial, row, yes, rowOf, members, station, reachedWith, reachedTo, safeTo, turnWith, level7, level10}
+use Rattle.visit.specs.trials.Sample.{Trial, row, yes, rowOf, members, station, reachedWith, reachedTo, safeTo, turnWith, turnWaited, tokenCarrying, level7, level10}
 use Rattle.visit.specs.trials.Marks.{marking}
-use Rattle.station.specs.trials.Sample.{refusal, outcome, bytes, loadedWith, messageFrame, tokenFrame, arrives, heard, visited, framesCount, frameAt, tokenLeft, aruLeft, requestsLeft, countsLeft, stallLeft, marks}
+use Rattle.station.specs.trials.Sample.{refusal, outcome, bytes, loadedWith, messageFrame, tokenFrame, arrives, heard, visited, framesCount, frameAt, tokenLeft, aruLeft, requestsLeft, countsLeft, shareLeft, stallLeft, marks}
 
 abbrev pub level31 : Record
 level31 = reachedTo 31
@@ -138,6 +139,30 @@ flow =
     ∷ rowOf (countsLeft (visited (loadedWith 2 level10) 4 10 10 Nobody 0 [])) (3 ∷ 12 ∷ 2 ∷ 0 ∷ [])
     ∷ []
 
+-- n posts wait at a station with this own part of the backlog; a token with this backlog
+abbrev pub shared : ℕ → ℕ → ℕ → Reply
+shared n waited backlog = arrives (loadedWith n (reachedWith 0 (turnWaited 0 0 0 waited))) (tokenBytes (tokenCarrying 4 7 4 0 0 Nobody 0 backlog []))
+
+-- document 02, Job 1
+abbrev pub sharing : List Trial
+sharing =
+    -- 16 wait here, none elsewhere: 8 new
+    rowOf (shareLeft (shared 16 0 0)) (8 ∷ 8 ∷ 8 ∷ [])
+    -- 16 here, 80 elsewhere: 4, whether one's own part is on the token or not
+    ∷ rowOf (shareLeft (shared 16 0 80)) (4 ∷ 92 ∷ 12 ∷ [])
+    ∷ rowOf (shareLeft (shared 16 16 96)) (4 ∷ 92 ∷ 12 ∷ [])
+    -- 1 here, 96 elsewhere: the share is 0, so 1
+    ∷ rowOf (shareLeft (shared 1 0 96)) (1 ∷ 96 ∷ 0 ∷ [])
+    -- nothing waits; one's own part is taken off, not below 0
+    ∷ rowOf (shareLeft (shared 0 5 96)) (0 ∷ 91 ∷ 0 ∷ [])
+    ∷ rowOf (shareLeft (shared 0 16 5)) (0 ∷ 0 ∷ 0 ∷ [])
+    -- 128 in all
+    ∷ rowOf (shareLeft (shared 16 0 128)) (2 ∷ 128 ∷ 14 ∷ [])
+    -- backlog 129: 12. An own part of 17: not whole
+    ∷ row (refusal (shared 0 0 129)) 12
+    ∷ row (refusal (shared 0 17 0)) 2
+    ∷ []
+
 -- the size of the frame in which a content of n bytes is broadcast
 abbrev pub broadcastSize : ℕ → ℕ
 broadcastSize n = length (frameAt (visited (posted station 0 (bytes n) .rec) 4 0 0 Nobody 0 []) 0)
@@ -230,14 +255,14 @@ token4 = tokenFrame 4 7 4 10 10 Nobody 0 []
 abbrev pub door : List Trial
 door =
     -- each buffer one byte short
-    row (refusal (arrived level10 token4 1469 2752)) 1
-    ∷ row (refusal (arrived level10 token4 1470 2751)) 1
-    ∷ row (outcome (arrived level10 token4 1470 2752)) 6
+    row (refusal (arrived level10 token4 1471 2752)) 1
+    ∷ row (refusal (arrived level10 token4 1472 2751)) 1
+    ∷ row (outcome (arrived level10 token4 1472 2752)) 6
     -- not whole: founded by one alone; an aru above the level
     ∷ row (refusal (arrives (fresh (7 ∷ []) 7 4) [])) 2
     ∷ row (refusal (arrives (reachedWith 7 (turnWith 8 0 0)) token4)) 2
     -- the reader's
-    ∷ row (refusal (arrives level10 (take 29 token4))) 10
+    ∷ row (refusal (arrives level10 (take 31 token4))) 10
     ∷ row (refusal (arrives level10 (set token4 2 3))) 11
     ∷ row (refusal (visited level10 4 10 10 Nobody 129 [])) 12
     -- another ring's number, another representative
@@ -269,7 +294,7 @@ door =
 -- ---- the leave to resend
 
 abbrev pub resends : Reply → Reply
-resends reply = resent (reply .rec) 1470
+resends reply = resent (reply .rec) 1472
 
 abbrev pub resendings : List Trial
 resendings =
@@ -290,7 +315,7 @@ abbrev pub hearing : List Trial
 hearing = samples ++ messages ++ delivering
 
 abbrev pub visiting : List Trial
-visiting = marking ++ arus ++ forwarding ++ flow ++ contents ++ stalling ++ requesting
+visiting = marking ++ arus ++ forwarding ++ flow ++ sharing ++ contents ++ stalling ++ requesting
 
 abbrev pub entering : List Trial
 entering = door ++ resendings

@@ -81,6 +81,10 @@ requestsLeft reply = take (tokenLeft reply .count) (requestNumbers (tokenLeft re
 abbrev pub countsLeft : Reply → List ℕ
 countsLeft reply = framesCount reply ∷ tokenLeft reply .highest .0 ∷ tokenLeft reply .round ∷ reply .rec .posts .count ∷ []
 
+-- how many messages, the token's backlog, one's own part of it
+abbrev pub shareLeft : Reply → List ℕ
+shareLeft reply = (framesCount reply - 1) ∷ tokenLeft reply .backlog ∷ reply .rec .turn .waited ∷ []
+
 -- the id in the notice 'deaf', or 0, and the stall count
 abbrev pub stallLeft : Reply → List ℕ
 stallLeft reply = outcomeOf (reply .answer) .deaf ∷ reply .rec .turn .stall ∷ []

@@ -35,6 +35,7 @@ remembering =
             number = record { 0 = 1 };
             broadcast = 0;
             stall = 0;
+            waited = 0;
             size = shortestToken;
             token = firstBytes ++ replicate (longestToken - shortestToken) 0;
           };
@@ -88,18 +89,18 @@ posting =
 abbrev pub resending : List Trial
 resending =
     -- a fresh record has no leave
-    row (refusal (resent station 1470)) 19
+    row (refusal (resent station 1472)) 19
     -- with leave the token's bytes are written, and counted
-    ∷ row (outcome (resent remembering 1470)) 7
-    ∷ row (outcomeOf (resent remembering 1470 .answer) .frames) 30
-    ∷ rowOf (resent remembering 1470 .frames) firstBytes
-    ∷ row (refusal (resent station 1469)) 1
-    ∷ row (refusal (resent (fresh (7 ∷ []) 7 4) 1470)) 2
+    ∷ row (outcome (resent remembering 1472)) 7
+    ∷ row (outcomeOf (resent remembering 1472 .answer) .frames) 32
+    ∷ rowOf (resent remembering 1472 .frames) firstBytes
+    ∷ row (refusal (resent station 1471)) 1
+    ∷ row (refusal (resent (fresh (7 ∷ []) 7 4) 1472)) 2
     ∷ []
 
 -- the sizes that hosts know
 abbrev pub sizes : List Trial
-sizes = row recordSize 3425 ∷ row mostFrames 1470 ∷ row mostDeliveries 2752 ∷ []
+sizes = row recordSize 3428 ∷ row mostFrames 1472 ∷ row mostDeliveries 2752 ∷ []
 
 -- of the other calls
 abbrev pub calling : List Trial

@@ -76,18 +76,22 @@ safeTo n =
       posts = station .posts;
     }
 
--- a turn without leave: the aru forwarded last, the last count of broadcasts, the stall count
-abbrev pub turnWith : ℕ → ℕ → ℕ → Turn
-turnWith aru broadcast stall =
+-- a turn without leave: the aru forwarded last, the last count of broadcasts, the stall count, the own part of the backlog
+abbrev pub turnWaited : ℕ → ℕ → ℕ → ℕ → Turn
+turnWaited aru broadcast stall waited =
     record {
       aru = record { 0 = aru };
       earlier = record { 0 = 0 };
       number = record { 0 = 0 };
       broadcast = broadcast;
       stall = stall;
+      waited = waited;
       size = 0;
       token = freshTurn .token;
     }
+
+abbrev pub turnWith : ℕ → ℕ → ℕ → Turn
+turnWith aru broadcast stall = turnWaited aru broadcast stall 0
 
 -- all up to the level held
 abbrev pub level7 : Record
@@ -96,10 +100,10 @@ level7 = reachedTo 7
 abbrev pub level10 : Record
 level10 = reachedTo 10
 
--- ---- tokens: ring number, addressee, token number, highest, aru, blocker, round count, requests
+-- ---- tokens: ring number, addressee, token number, highest, aru, blocker, round count, backlog, requests
 
-abbrev pub tokenWith : ℕ → ℕ → ℕ → ℕ → ℕ → Blocker → ℕ → List ℕ → Token
-tokenWith ring addressee n highest aru blocker round requests =
+abbrev pub tokenCarrying : ℕ → ℕ → ℕ → ℕ → ℕ → Blocker → ℕ → ℕ → List ℕ → Token
+tokenCarrying ring addressee n highest aru blocker round backlog requests =
     record {
       header = header ring;
       addressee = addressee;
@@ -108,6 +112,11 @@ tokenWith ring addressee n highest aru blocker round requests =
       aru = record { 0 = aru };
       blocker = blocker;
       round = round;
+      backlog = backlog;
       count = length requests;
       requests = numbered (requests ++ replicate (mostRequests - length requests) 0);
     }
+
+-- with backlog 0
+abbrev pub tokenWith : ℕ → ℕ → ℕ → ℕ → ℕ → Blocker → ℕ → List ℕ → Token
+tokenWith ring addressee n highest aru blocker round requests = tokenCarrying ring addressee n highest aru blocker round 0 requests

@@ -4,6 +4,7 @@ use mathlib.Core.List.{List}
 use native.Mathlib.Omega.{arith}
 use lib.ListN.{length}
 use borrow.Author.Needs.{needs}
+use Rattle.frames.specs.Layout.{shortestToken}
 use Rattle.record.specs.Layout.{recordSize}
 use Rattle.ring.specs.Stations.{foundedUpTo}
 use Rattle.ring.proofs.places.FoundingLaws.{founding-goes}
@@ -11,7 +12,7 @@ use Rattle.ring.proofs.founding.found_others.Statement.{statement}
 use Rattle.ring.proofs.founding.found_others.Tie as tie
 
 abbrev Inv-loop : tie.InvT-loop
-Inv-loop records₀ list ring n token₀ i₀ records token i = (1 ≤ i) × (1 ≤ n → i ≤ n) × (length records ≡ length records₀) × (length token ≡ 30) × ((before : List ℕ) → 1 ≤ n → recordSize * n ≤ length before
+Inv-loop records₀ list ring n token₀ i₀ records token i = (1 ≤ i) × (1 ≤ n → i ≤ n) × (length records ≡ length records₀) × (length token ≡ shortestToken) × ((before : List ℕ) → 1 ≤ n → recordSize * n ≤ length before
     → records₀ ≡ foundedUpTo list (ring .0) before 1
     → records ≡ foundedUpTo list (ring .0) before i)
 

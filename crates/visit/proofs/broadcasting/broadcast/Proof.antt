@@ -4,7 +4,7 @@ use Rattle.record.specs.inner.Head.{recordIn, contentsIn}
 use Rattle.record.specs.Layout.{logAt}
 use Rattle.visit.specs.Visit.{Visit}
 use Rattle.visit.specs.Acceptable.{visit}
-use Rattle.visit.proofs.VisitFacts.{token-good}
+use Rattle.visit.proofs.VisitFacts.{token-good, few-wait}
 use Rattle.visit.proofs.Broadcast.{safe-most, asked-few, split-count, hold-allowed, sent-few, level-ready, repeats-ready, all-sent}
 use Rattle.visit.proofs.broadcasting.broadcast.Statement.{statement}
 use Rattle.visit.proofs.broadcasting.broadcast.Tie as tie
@@ -27,7 +27,7 @@ new-count-requires : tie.Need-new-count-requires
 new-count-requires c κs =
     let start = c .before .before .before .before .before .before .before .before .before .before .before in
     let v = the-visit start in
-    (split-count v (start .pre .0) _ (c .before .before .before .before .before .before .before .numbers-in .ensures) _ (c .before .before .before .split-requests .ensures (contentsIn (start .args .s .now) logAt)), safe-most v (start .pre .0))
+    (split-count v (start .pre .0) _ (c .before .before .before .before .before .before .before .numbers-in .ensures) _ (c .before .before .before .split-requests .ensures (contentsIn (start .args .s .now) logAt)), safe-most v (start .pre .0), few-wait v (start .pre .0))
 
 hold-new-requires : tie.Need-hold-new-requires
 hold-new-requires c κs =
