@@ -28,10 +28,10 @@ extern "C" {
 #endif
 
 /* Lengths in bytes. */
-#define TOTEM_STATION_LEN 3425     /* a station's record */
-#define TOTEM_FRAMES_LEN 1470      /* the least buffer for frames */
+#define TOTEM_STATION_LEN 3428     /* a station's record */
+#define TOTEM_FRAMES_LEN 1472      /* the least buffer for frames */
 #define TOTEM_DELIVERIES_LEN 2752  /* the least buffer for deliveries */
-#define TOTEM_TOKEN_LEN 30         /* a ring's first token */
+#define TOTEM_TOKEN_LEN 32         /* a ring's first token */
 #define TOTEM_MOST_CONTENT 64      /* a post's content */
 
 /* Counts and numbers. */
@@ -156,10 +156,16 @@ totem_answer totem_post(uint8_t *station, size_t station_len, uint16_t service, 
  *
  * The first bytes of frames, as many as the answer's frames says, are frames for the cable, one after
  * another, each beginning with its own 2-byte length: messages repeated because the token asked for them,
- * new messages (the oldest posts, which wait no longer), and last the token, 30 to 94 bytes, for the next
+ * new messages (the oldest posts, which wait no longer), and last the token, 32 to 96 bytes, for the next
  * member. The first bytes of deliveries, as many as the answer's deliveries says, are the messages delivered
  * by this call, in the ring's order, as the frames of kind 1 that were on the cable. Either kind of frame may
  * deliver, whatever the outcome is.
+ *
+ * How many new messages a visit sends: together with its repeats at most 8, and at most what the others have
+ * left of 24 in the last round; none past safe mark + 32. Where posts wait, also at most their share: for
+ * that the token carries the backlog (2 bytes at byte 28, 0 to 128), the sum of the posts that waited at each
+ * station when it last forwarded the token. The share is 24 times the posts that wait here when the token
+ * comes, divided by these and the others' backlog together, rounded down, and 1 where that is 0.
  *
  * What a host needs to find in a frame, little-endian: at byte 0 the length (2 bytes, counting those after
  * it), at byte 2 the kind (2); of a message, at 10 the sender (2), at 12 its number (4), at 20 the service
@@ -187,7 +193,7 @@ totem_answer totem_arrive(uint8_t *station, size_t station_len, const uint8_t *f
  * 2: station has exactly TOTEM_STATION_LEN bytes and is whole.
  * 19: the token may be resent.
  *
- * Answers TOTEM_RESENT and the token's size, 30 to 94, in frames; that many bytes at the start of frames are
+ * Answers TOTEM_RESENT and the token's size, 32 to 96, in frames; that many bytes at the start of frames are
  * the token.
  *
  * Never touched: the record, the bytes past the token, everything on a refusal.

@@ -1,7 +1,8 @@
-"""A model of the bench over the model of the station, written from the specification's words and from nothing else."""
+"""A model of the bench over the model of the station, written from the words of the specification and of the requests
+that came later, and from nothing else."""
 import re
 
-from model import DELIVERIES_ROOM, FRAMES_ROOM, Message, Refused, Station, Token, claim, read, write
+from model import DELIVERIES_ROOM, FRAMES_ROOM, IN_A_ROUND, LIMIT, WINDOW, Message, Refused, Station, Token, claim, read, write
 
 
 class NotUnderstood(Exception):
@@ -107,7 +108,7 @@ class Bench:
         if len(fields) != 2:
             raise NotUnderstood("no count, or too much")
         count = min(number(fields[1]), 1000)
-        token = Token(4, 3, 3, 1, count, 0, 3 if count else 0, 0, tuple(range(1, count + 1)))
+        token = Token(4, 3, 3, 1, count, 0, 3 if count else 0, 0, 0, tuple(range(1, count + 1)))
         self.printed.append(b"%d\n" % len(write(token)))
 
     def hand(self, place, frame, lost):
@@ -120,13 +121,28 @@ class Bench:
         self.newest = answer.token or self.newest
 
     def arrive(self, place, frame):
-        answer = self.stations[place].arrive(frame)
+        station = self.stations[place]
+        waiting, safe, last_count = len(station.posts), station.safe, station.last_count
+        answer = station.arrive(frame)
         self.pure = self.pure and frame in self.written
+        if answer.token:
+            self.check_turn(station, read(frame), waiting, safe, last_count)
         self.check_order(place, frame, answer)
         for delivered in answer.deliveries:
             value = read(delivered)
             self.printed.append(b"%d %d %d %d " % (place, value.number, value.sender, value.service) + value.content + b"\n")
         return answer
+
+    def check_turn(self, station, token, waiting, safe, last_count):
+        """Of a visit, with what waited, the safe mark and the last count before it: a post has its turn, and the backlog
+        says what waits."""
+        new = waiting - len(station.posts)
+        repeats = station.last_count - new
+        room = min(IN_A_ROUND - max(0, token.round - last_count), safe + WINDOW - token.highest, LIMIT - token.highest)
+        claim(new >= 1 or waiting == 0 or repeats > 0 or room < 1, "one goes out where the other limits allow it")
+        if self.pure:
+            claim(read(station.resendable).backlog == sum(other.own_part for other in self.stations),
+                  "the backlog is the sum of what waited at each station when it last forwarded")
 
     def check_order(self, place, frame, answer):
         """The answer's sizes; and of what only copies of written frames bring about: one order everywhere."""

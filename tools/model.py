@@ -1,4 +1,5 @@
-"""A model of frames and of the station, written from the specification's words and from nothing else.
+"""A model of frames and of the station, written from the words of the specification and of the requests that came
+later (document 02), and from nothing else.
 
 It shares no code and no definition with the library, so that the two can be compared: `tools/script` runs it.
 Numbers in `ask` are those of the specification's questions, numbers of steps those of 'A token is accepted'.
@@ -12,7 +13,9 @@ WINDOW = 32            # messages held above the safe mark
 REQUESTS = 16
 POSTS = 16
 CONTENT = 64
-FRAMES_ROOM, DELIVERIES_ROOM = 1_470, 2_752
+AT_A_VISIT, IN_A_ROUND = 8, 24  # messages that flow control allows
+MOST_ROUND = MOST_BACKLOG = 128
+FRAMES_ROOM, DELIVERIES_ROOM = 1_472, 2_752
 checks = 0             # claims that held
 
 
@@ -55,6 +58,7 @@ class Token(NamedTuple):
     aru: int
     blocker: int  # 0: nobody
     round: int
+    backlog: int
     requests: tuple
 
 
@@ -65,7 +69,7 @@ def packed(value):
         body = struct.pack("<HIHHIIH", 1, ring, rep, sender, number, 0, service) + content
     else:
         count = len(value.requests)
-        body = struct.pack("<HIHHIIIHHH%dI" % count, 2, *value[:8], count, *value.requests)
+        body = struct.pack("<HIHHIIIHHHH%dI" % count, 2, *value[:9], count, *value.requests)
     return struct.pack("<H", len(body)) + body
 
 
@@ -79,7 +83,8 @@ def follows_layout(value):
         return value.sender != 0 and numbers(value.number) and value.service in (0, 1) and len(value.content) <= CONTENT
     requests = value.requests
     return (value.addressee != 0 and numbers(value.number) and 0 <= value.aru <= value.highest <= LIMIT
-            and (value.blocker == 0) == (value.aru == value.highest) and 0 <= value.round <= 128
+            and (value.blocker == 0) == (value.aru == value.highest)
+            and 0 <= value.round <= MOST_ROUND and 0 <= value.backlog <= MOST_BACKLOG
             and len(requests) <= REQUESTS and len(set(requests)) == len(requests)
             and all(1 <= n <= value.highest for n in requests))
 
@@ -100,10 +105,10 @@ def read(frame):
         ask(12, configuration == 0)
         value = Message(ring, rep, sender, number, service, frame[22:])
     else:
-        ask(12, len(frame) >= 30)
-        *fields, count = struct.unpack("<HHIHHIIIHHH", frame[:30])
-        ask(12, len(frame) == 30 + 4 * count)
-        value = Token(*fields[2:], struct.unpack("<%dI" % count, frame[30:]))
+        ask(12, len(frame) >= 32)
+        *fields, count = struct.unpack("<HHIHHIIIHHHH", frame[:32])
+        ask(12, len(frame) == 32 + 4 * count)
+        value = Token(*fields[2:], struct.unpack("<%dI" % count, frame[32:]))
     ask(12, follows_layout(value))
     return value
 
@@ -128,13 +133,14 @@ class Station:
         self.level = self.safe = self.delivered = 0
         self.arus = (0, 0)  # of the last two tokens forwarded, the newer one last
         self.last_token = self.last_count = self.stall = 0
+        self.own_part = 0   # of the backlog: what waited here when the token was last forwarded
         self.resendable = None
         self.posts = []     # (service, content), oldest first
         self.held = {}      # message number to frame
 
     def first_token(self):
         rep = self.members[0]
-        return write(Token(self.ring, rep, rep, 1, 0, 0, 0, 0, ()))
+        return write(Token(self.ring, rep, rep, 1, 0, 0, 0, 0, 0, ()))
 
     def post(self, service, content):
         ask(7, len(content) <= CONTENT)
@@ -188,10 +194,23 @@ class Station:
             frames.append(self.held[following])
             self.delivered = following
 
+    def others(self, token):
+        """Step 1: the others' count, and the others' backlog."""
+        return max(0, token.round - self.last_count), max(0, token.backlog - self.own_part)
+
+    def allowance(self, token):
+        """Step 1; where a post waits, no more than the share of what waits here, which is at least 1."""
+        count, backlog = self.others(token)
+        allowance = max(0, min(AT_A_VISIT, IN_A_ROUND - count))
+        waiting = len(self.posts)
+        if waiting == 0:
+            return allowance
+        return min(allowance, max(1, IN_A_ROUND * waiting // (backlog + waiting)))
+
     def visit(self, token):
         # 1
-        others = max(0, token.round - self.last_count)
-        allowance = max(0, min(8, 24 - others))
+        others, others_backlog = self.others(token)
+        allowance = self.allowance(token)
         # 2
         repeats = [self.held[n] for n in token.requests if n in self.held]
         requests = [n for n in token.requests if n not in self.held]
@@ -221,10 +240,12 @@ class Station:
                 requests.append(n)
         # 8
         self.last_count = len(repeats) + len(new)
+        self.own_part = len(self.posts)
         self.last_token = token.number + 1
         following = self.members[(self.members.index(self.own) + 1) % len(self.members)]
         self.resendable = write(Token(self.ring, self.members[0], following, self.last_token, highest, aru, blocker,
-                                      min(128, others + self.last_count), tuple(requests)))
+                                      min(MOST_ROUND, others + self.last_count),
+                                      min(MOST_BACKLOG, others_backlog + self.own_part), tuple(requests)))
         # 9
         deliveries = self.deliver()
         self.held = {n: frame for n, frame in self.held.items() if n > self.safe}
@@ -238,6 +259,7 @@ class Station:
         claim(all(self.safe < n <= min(LIMIT, self.safe + WINDOW) for n in self.held), "held numbers in the window")
         claim(len(self.posts) <= POSTS and self.last_count <= 16 and self.stall <= 255 and self.last_token <= LIMIT,
               "counts in range")
+        claim(self.own_part <= POSTS, "own part of the backlog in range")
         for n, frame in self.held.items():
             value = read(frame)
             self.passes(value)

@@ -1,11 +1,12 @@
 """The bench's stored script, section by section, and what each is there for.
 
-What it prints comes from the model. Only the specification's own lines and numbers are written here by hand, and compared.
+What it prints comes from the model. Only the lines and numbers that the specification and the requests give are written
+here by hand, and compared.
 """
 import struct
 
 from bench_model import Bench
-from model import LIMIT, Station, claim, read
+from model import LIMIT, POSTS, Station, claim, read
 from trials import FIRST, changed, framed, message, refusal, token
 
 
@@ -13,6 +14,7 @@ class Script:
     def __init__(self):
         self.bench = Bench()
         self.sections = []
+        self.named = 0  # posts made by fill
 
     def section(self, why):
         self.sections.append((why, []))
@@ -34,6 +36,12 @@ class Script:
     def posts(self, place, count, name, services=(0,)):
         for n in range(count):
             self.line("p %d %d %s%d" % (place, services[n % len(services)], name, n + 1))
+
+    def fill(self, place, name, most=POSTS):
+        """Posts until so many wait there."""
+        while len(self.bench.stations[place].posts) < most:
+            self.named += 1
+            self.line("p %d 0 %s %d" % (place, name, self.named))
 
     def ticks(self, count):
         self.line(*["t"] * count)
@@ -65,7 +73,7 @@ def of_the_specification(s):
     s.ticks(5)
     claim(s.stdout() == b"0 1 3 0 ok\n1 1 3 0 ok\n1 2 7 1 up\n0 2 7 1 up\n", "the specification's four lines")
     s.section("the specification's trials without a star: sizes of tokens, token 2,000,000,000, a token repeated")
-    s.expect("w 16", b"94\n")
+    s.expect("w 16", b"96\n")
     s.expect("w 17", b"no 12\n")
     s.expect("f 1 " + token(7, LIMIT, 2, 2).hex(), b"no 17\n")
     s.expect("f 0 " + FIRST.hex(), b"no 16\n")
@@ -131,7 +139,7 @@ def starved(s):
     stations, newest = s.bench.stations, read(s.bench.newest)
     claim(newest.highest == 32 and stations[0].posts and stations[0].safe == 0, "flow control stops at safe mark + 32")
     claim(stations[2].stall > 10 and stations[2].level == 0, "more than ten rounds")
-    claim(any(len(frame) == 94 for frame in s.bench.cable), "a token with 16 requests")
+    claim(any(len(frame) == 96 for frame in s.bench.cable), "a token with 16 requests")
     claim(any(station.last_count == 16 for station in stations), "16 repeats at one visit")
     s.ticks(33)
     s.all_delivered()
@@ -194,6 +202,105 @@ def flow(s):
     for frame in s.bench.cable[2:4]:
         s.frame(2, frame)
     s.posts(0, 8, "n")
+    s.ticks(9)
+    s.all_delivered()
+
+
+def turns(s):
+    quiet_beside_full(s)
+    shares(s)
+    s.section("request 1: a backlog of 129: no 12, and the post waits on")
+    s.line("r 4 3 7", "p 0 0 waits")
+    s.expect("f 0 " + token(backlog=129).hex(), b"no 12\n")
+    s.line("t", "t")
+    s.section("request 1: four stations whose queues are full at every visit: the fourth has its turn too")
+    s.line("r 4 3 7 9 5")
+    for _ in range(3 * 4):
+        for place in range(4):
+            s.fill(place, "%c" % (97 + place))
+        s.line("t")
+    claim({read(frame).sender for frame in s.bench.readings.values()} == {3, 7, 9, 5}, "a turn each")
+    s.ticks(4 * 8)
+    s.all_delivered()
+    window(s)
+
+
+def quiet_beside_full(s):
+    for members in ("3 7", "3 7 9"):
+        others = len(members.split()) - 1
+        s.section("request 1: beside a station whose queue is full at every visit another posts a line now and then, and "
+                  "each goes out at its first visit; ring of %d" % (others + 1))
+        s.line("r 4 " + members)
+        for turn in range(5):
+            s.fill(1, "crown")
+            quiet = turn in (1, 2, 4)
+            if quiet:
+                s.line("p 0 0 batch house %d" % turn)
+            before = read(s.bench.newest)
+            s.line("t")
+            claim(before.backlog == (8 if turn else 0), "eight wait at the crown when it forwards")
+            claim(read(s.bench.newest).highest == before.highest + quiet, "the line goes out at its first visit")
+            s.ticks(others)
+            claim(read(s.bench.newest).highest == before.highest + quiet + 8, "the crown has eight at every visit")
+        s.ticks(6 + 2 * others)
+        s.all_delivered()
+
+
+def shares(s):
+    s.section("request 1, trials: what waits here and the others' backlog say how many go out")
+    for waiting, backlog, new in ((16, 0, 8), (16, 80, 4), (1, 96, 1), (0, 96, 0), (0, 0, 0), (16, 81, 3), (1, 128, 1),
+                                  (16, 128, 2)):
+        s.line("r 4 3 7")
+        s.fill(0, "waits", waiting)
+        s.frame(0, token(backlog=backlog))
+        after = read(s.bench.newest)
+        claim(after.highest == new, "%d wait, backlog %d: %d go out" % (waiting, backlog, new))
+        claim(after.backlog == min(128, backlog + waiting - new), "what waits afterwards is added")
+        s.line("t")
+    s.section("request 1: the own part, 16, is taken off first, not below 0: of a backlog of 96 others have 80, of 8 none")
+    for backlog, new in ((96, 4), (8, 8)):
+        s.line("r 4 3 7")
+        s.fill(0, "waits")
+        s.frame(0, token(round=24))
+        claim(s.bench.stations[0].own_part == 16, "nothing went out")
+        s.frame(0, token(number=3, backlog=backlog))
+        claim(read(s.bench.newest).highest == new, "%d go out" % new)
+        s.line("t")
+    s.section("request 1: round count 24 allows none, whatever the share; of a share of 4 three repeats leave 1, five none")
+    s.line("r 4 3 7", "p 0 0 waits")
+    s.frame(0, token(round=24, backlog=96))
+    claim(len(s.bench.stations[0].posts) == 1, "none")
+    for repeats, new in ((3, 1), (5, 0)):
+        s.line("r 4 3 7")
+        for n in range(1, 6):
+            s.frame(0, message(n, b"m%d" % n))
+        s.fill(0, "waits")
+        s.frame(0, token(highest=5, blocker=7, backlog=80, requests=range(1, repeats + 1)))
+        claim(read(s.bench.newest).highest == 5 + new, "%d repeats" % repeats)
+        s.line("t")
+
+
+def window(s):
+    s.section("request 1: beside two full stations the window decides: a round carries 16, and a third one's line waits")
+    s.line("r 4 3 7 9")
+    s.ticks(1)
+    for turn in range(4):
+        s.fill(1, "crown")
+        s.fill(2, "throat")
+        if turn == 1:
+            s.line("p 0 0 batch house")
+        s.ticks(3)
+    claim(s.bench.stations[0].posts, "the line waits")
+    s.ticks(15)
+    s.all_delivered()
+    s.section("where no more than seven wait at each of the two, it goes out at its first visit")
+    for turn in range(3):
+        s.fill(1, "crown", 7)
+        s.fill(2, "throat", 7)
+        s.ticks(2)
+        s.line("p 0 0 batch house %d" % turn)
+        s.ticks(1)
+        claim(not s.bench.stations[0].posts, "the line goes out")
     s.ticks(9)
     s.all_delivered()
 
@@ -290,19 +397,20 @@ def refusals(s):
 def odd_frames():
     """Frames that questions 10 to 14 refuse, for a ring 4 of 3, 7, 9."""
     m, t = message(1, b"up"), token(3, 1, 3, 2, 7, 1, (3, 2))
-    ten = [b"\0", b"\0\0", b"\7\0\1\0\4\0\0\0\3", m[:-1], m + b"\0", changed(m, 0, 0), changed(t, 1, 1), t[:29], b"\xff" * 40]
+    ten = [b"\0", b"\0\0", b"\7\0\1\0\4\0\0\0\3", m[:-1], m + b"\0", changed(m, 0, 0), changed(t, 1, 1), t[:31], b"\xff" * 40]
     eleven = [framed(struct.pack("<HIH", kind, 4, 3) + bytes(20)) for kind in (0, 3, 256, 65_535)]
     eleven.append(changed(m, 2, 7, 0, 0, 0, 0, 0))
     twelve = [
-        framed(m[2:10]), framed(t[2:10]), framed(m[2:21]), framed(t[2:29]),
+        framed(m[2:10]), framed(t[2:10]), framed(m[2:21]), framed(t[2:31]),
         message(ring=0), message(ring=LIMIT + 1), message(rep=0), message(sender=0), message(0), message(LIMIT + 1),
         changed(m, 16, 1), changed(m, 19, 255), message(service=2), message(service=256),
         message(content=b"x" * 65), message(content=b"x" * 200),
         token(ring=0), token(ring=LIMIT + 1), token(rep=0), token(0), token(number=0), token(number=LIMIT + 1),
         token(highest=LIMIT + 1, blocker=7), token(highest=1, aru=2, blocker=7), token(highest=2, aru=2, blocker=7),
-        token(highest=2, aru=1), token(blocker=7), token(round=129), token(requests=(1,)),
+        token(highest=2, aru=1), token(blocker=7), token(round=129), token(requests=(1,)), token(backlog=129),
         *[token(highest=17, blocker=7, requests=requests) for requests in (range(1, 18), (1, 1), (2, 0), (18,))],
-        framed(t[2:] + b"\0"), changed(t, 28, 0), changed(t, 28, 1), changed(t, 28, 3), changed(t, 28, 2, 1)]
+        framed(t[2:] + b"\0"), changed(t, 30, 0), changed(t, 30, 1), changed(t, 30, 3), changed(t, 30, 2, 1),
+        framed(t[2:28] + t[30:])]
     thirteen = [message(ring=5), message(rep=7), token(ring=LIMIT), token(rep=4), message(ring=5, sender=8)]
     fourteen = [message(sender=8), message(sender=65_535), token(8), token(highest=1, blocker=8)]
     for number, frames in ((10, ten), (11, eleven), (12, twelve), (13, thirteen), (14, fourteen)):
@@ -344,7 +452,7 @@ def lines_of_every_sort(s):
     s.line("r 5 3 65536", "r 5 65539 7", "r 0 7 65536", "r 5 3 %d" % (2 ** 64 + 7))
     s.line("f", "f x", "f 2", "f x " + first, "f -1 " + first, "f  0 " + first, *["f %d %s" % (place, first) for place in far])
     s.line("f 0 0", "f 0 zz", "f 0 " + first[1:], "f 0 " + first[:-1], "f 0 " + first[:-1] + "g", "f 0 0x" + first)
-    s.line("f 0 1c " + first[2:], "f 0 " + first + " ", "f 0 " + "g" * 3_000)
+    s.line("f 0 " + first[:2] + " " + first[2:], "f 0 " + first + " ", "f 0 " + "g" * 3_000)
     s.line("w", "w x", "w -1", "w 1 6", "w  16", "w 16 ")
     s.line("t", "t")
     s.section("an empty line is passed over; leading zeros are allowed; hexadecimal in either case")
@@ -358,7 +466,8 @@ def lines_of_every_sort(s):
 
 def stored():
     s = Script()
-    for part in (of_the_specification, rings, losses, starved, flow, order_of_arrival, refusals, contents, lines_of_every_sort):
+    for part in (of_the_specification, rings, losses, starved, flow, turns, order_of_arrival, refusals, contents,
+                 lines_of_every_sort):
         part(s)
     claim(Bench().run(s.stdin()) == s.stdout(), "the script in one piece")
     return s

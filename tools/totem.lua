@@ -9,8 +9,8 @@ local totem = Proto("totem", "Totem single-ring ordering")
 local MOST_NUMBER = 2000000000 -- of ring, message and token numbers
 local LENGTH_SIZE, HEADER_SIZE = 2, 10
 local MESSAGE_SIZE, MOST_CONTENTS = 22, 64
-local TOKEN_SIZE, REQUEST_SIZE, MOST_REQUESTS = 30, 4, 16
-local MOST_FCC = 128
+local TOKEN_SIZE, REQUEST_SIZE, MOST_REQUESTS = 32, 4, 16
+local MOST_FCC, MOST_BACKLOG = 128, 128
 
 local MESSAGE, TOKEN = 1, 2
 local KINDS = { [MESSAGE] = "message", [TOKEN] = "token" }
@@ -49,7 +49,8 @@ local BODY = {
         number("aru", 20, 4, "All received up to this number, as far as the token knows"),
         number("aru_id", 24, 2, "The station that holds aru below seq, or 0: nobody, where they are equal"),
         number("fcc", 26, 2, "Messages broadcast during the last rotation of the token"),
-        number("rtr_count", 28, 2, "The number of retransmission requests"),
+        number("backlog", 28, 2, "Posts that waited at all stations when each last forwarded the token"),
+        number("rtr_count", 30, 2, "The number of retransmission requests"),
     },
 }
 
@@ -99,7 +100,7 @@ local FAULT = {
         if not SERVICES[v.service] then return "service is not 0 or 1" end
     end,
     [TOKEN] = function(v)
-        if v.size < TOKEN_SIZE then return "a token has at least 30 bytes" end
+        if v.size < TOKEN_SIZE then return "a token has at least 32 bytes" end
         if v.rtr_count > MOST_REQUESTS then return "rtr has over 16 requests" end
         if v.size ~= TOKEN_SIZE + REQUEST_SIZE * v.rtr_count then return "rtr_count doesn't fit the size" end
         if v.addressee == 0 then return "addressee is 0" end
@@ -109,6 +110,7 @@ local FAULT = {
         if v.aru == v.seq and v.aru_id ~= 0 then return "aru_id is not nobody, but aru equals seq" end
         if v.aru < v.seq and v.aru_id == 0 then return "aru_id is nobody, but aru is below seq" end
         if v.fcc > MOST_FCC then return "fcc is over 128" end
+        if v.backlog > MOST_BACKLOG then return "backlog is over 128" end
         return requests_fault(v)
     end,
 }
@@ -184,8 +186,8 @@ local function summary(v)
         return ("message seq=%d from %d %s %s"):format(v.seq, v.sender_id, SERVICES[v.service],
                                                        quoted(contents(v)))
     end
-    return ("token token_seq=%d to %d seq=%d aru=%d aru_id=%s fcc=%d rtr=[%s]"):format(
-        v.token_seq, v.addressee, v.seq, v.aru, v.aru_id == 0 and "nobody" or v.aru_id, v.fcc,
+    return ("token token_seq=%d to %d seq=%d aru=%d aru_id=%s fcc=%d backlog=%d rtr=[%s]"):format(
+        v.token_seq, v.addressee, v.seq, v.aru, v.aru_id == 0 and "nobody" or v.aru_id, v.fcc, v.backlog,
         table.concat(v.rtr, ","))
 end
 

@@ -1,4 +1,5 @@
-"""The specification's starred trials on the model, and random scripts for it: `tools/script` runs both."""
+"""The specification's starred trials and those of the requests on the model, and random scripts for it: `tools/script`
+runs them."""
 import random
 import struct
 
@@ -10,8 +11,8 @@ def message(number=1, content=b"x", sender=7, service=0, ring=4, rep=3):
     return packed(Message(ring, rep, sender, number, service, content))
 
 
-def token(addressee=3, number=1, highest=0, aru=0, blocker=0, round=0, requests=(), ring=4, rep=3):
-    return packed(Token(ring, rep, addressee, number, highest, aru, blocker, round, tuple(requests)))
+def token(addressee=3, number=1, highest=0, aru=0, blocker=0, round=0, requests=(), ring=4, rep=3, backlog=0):
+    return packed(Token(ring, rep, addressee, number, highest, aru, blocker, round, backlog, tuple(requests)))
 
 
 def framed(body):
@@ -22,7 +23,7 @@ def changed(frame, place, *values):
     return frame[:place] + bytes(values) + frame[place + len(values):]
 
 
-FIRST = bytes.fromhex("1C000200040000000300030001000000") + bytes(14)
+FIRST = bytes.fromhex("1E000200040000000300030001000000") + bytes(16)
 
 
 def refusal(call):
@@ -35,16 +36,24 @@ def refusal(call):
 
 # The trials
 
-def at_seven(level=0, last_aru=0, last_count=0, posts=0, held=()):
+def at_seven(level=0, last_aru=0, last_count=0, posts=0, held=(), own_part=0):
     """The trials' station: members 3, 7, 9, own id 7, otherwise fresh, with all up to the level held."""
     station = Station(4, (3, 7, 9), 7)
     for n in [*range(1, level + 1), *held]:
         station.hold(n, message(n, service=1))
-    station.arus, station.last_count = (0, last_aru), last_count
+    station.arus, station.last_count, station.own_part = (0, last_aru), last_count, own_part
     for _ in range(posts):
         station.post(0, b"up")
     station.check_whole()
     return station
+
+
+def is_whole(**values):
+    try:
+        at_seven(**values)
+    except AssertionError:
+        return False
+    return True
 
 
 def left(station, **values):
@@ -79,6 +88,28 @@ def starred():
     claim(station.resend() == answer.token == station.resend(), "resending writes the remembered token")
     claim(refusal(lambda: station.arrive(message(sender=8))) == 14 and station.resend(), "a refused arrival leaves the leave")
     claim(station.arrive(message()).word == "kept" and refusal(station.resend) == 19, "a message ends the leave")
+
+
+def shared():
+    """Request 1: what waits here, the token's backlog, the own part; how many go out, and the backlog that is left."""
+    for posts, backlog, own_part, new, leaves in (
+            (16, 0, 0, 8, 8), (16, 80, 0, 4, 92), (16, 96, 16, 4, 92), (16, 81, 0, 3, 94), (16, 128, 0, 2, 128),
+            (16, 8, 16, 8, 8), (1, 96, 0, 1, 96), (1, 23, 0, 1, 23), (1, 128, 0, 1, 128), (2, 46, 0, 1, 47), (3, 21, 0, 3, 21),
+            (0, 128, 0, 0, 128), (0, 96, 16, 0, 80), (0, 0, 0, 0, 0)):
+        what = "%d wait, backlog %d, own part %d" % (posts, backlog, own_part)
+        station = at_seven(posts=posts, own_part=own_part)
+        answer, after = left(station, backlog=backlog)
+        claim((len(answer.broadcasts), after.backlog, station.own_part) == (new, leaves, posts - new), what)
+    for posts, backlog, round, allowance in ((0, 128, 0, 8), (0, 128, 20, 4), (16, 80, 22, 2), (1, 96, 24, 0), (16, 80, 20, 4)):
+        values = read(token(7, round=round, backlog=backlog))
+        claim(at_seven(posts=posts).allowance(values) == allowance, "allowance %d" % allowance)
+    answer, _ = left(at_seven(3, posts=16), highest=3, aru=3, backlog=80, requests=(1, 2, 3))
+    claim(len(answer.broadcasts) == 3 + 1, "repeats are taken off the share: three and one new")
+    answer, _ = left(at_seven(3), highest=3, aru=3, backlog=128, requests=(1, 2, 3))
+    claim(len(answer.broadcasts) == 3, "the share does not limit repeats")
+    for backlog, number in ((128, 0), (129, 12), (65_535, 12)):
+        claim(refusal(lambda: at_seven().arrive(token(7, backlog=backlog))) == number, "backlog %d" % backlog)
+    claim(is_whole(own_part=16) and not is_whole(own_part=17), "an own part of 16, and of 17")
 
 
 def three_rounds(dice):
@@ -179,7 +210,7 @@ class Dice:
 
     def cut(self, frame, place):
         body = frame[2:] + bytes(self.rng.choice((0, 1, 4, 64, 100)))
-        body = body[:self.rng.choice((0, 7, 8, 19, 20, 27, 28, 32, 84, 85, 92, 93, 500))]
+        body = body[:self.rng.choice((0, 7, 8, 19, 20, 28, 29, 30, 34, 84, 85, 94, 95, 500))]
         return framed(body) if self.rng.random() < 0.7 else frame[:2] + body
 
     def other_token(self, frame, place):
@@ -190,7 +221,8 @@ class Dice:
         requests = rng.sample(range(max(1, highest - 33), highest + 1), rng.randint(0, min(17, highest)))
         number = rng.choices((here.last_token + rng.randint(0, 3), LIMIT - 1, LIMIT), (30, 1, 1))[0]
         round = rng.choice((0, 3, 8, 16, 20, 23, 24, 30, 127, 128, 129))
-        return token(here.own, number, highest, aru, blocker, round, requests, here.ring, here.members[0])
+        backlog = rng.choices((0, rng.randint(0, 128), 128, 129), (8, 12, 2, 1))[0]
+        return token(here.own, number, highest, aru, blocker, round, requests, here.ring, here.members[0], backlog)
 
     def other_message(self, frame, place):
         rng, here = self.rng, self.bench.stations[place]

@@ -57,7 +57,7 @@ static unsigned put_token(uint8_t *frame, unsigned highest, unsigned asked)
     put32(frame + 12, 1);
     put32(frame + 16, highest);
     put32(frame + 20, highest);
-    put16(frame + 28, asked);
+    put16(frame + 30, asked);
     for (unsigned i = 0; i < asked; i++)
         put32(frame + TOTEM_TOKEN_LEN + 4 * i, i + 1);
     return size;

@@ -1,6 +1,6 @@
 /*
  * The cable: one UDP socket. A datagram holds frames one after another, each beginning with its own length,
- * as an answer's frames stand in the buffer; these are at most 1,470 bytes and fit an Ethernet frame.
+ * as an answer's frames stand in the buffer; these are at most 1,472 bytes and just fit an Ethernet frame.
  */
 #ifndef NODE_CABLE_H
 #define NODE_CABLE_H

@@ -17,7 +17,7 @@
 #include "station.h"
 #include "tally.h"
 
-enum { MOST_TOKEN = 94, LONG_QUIET = 5 /* timeouts */ };
+enum { MOST_TOKEN = 96, LONG_QUIET = 5 /* timeouts */ };
 
 struct resend {
     instant timeout;

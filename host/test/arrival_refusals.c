@@ -11,9 +11,9 @@
 /* what the edits are made on: frames that the rich record takes */
 enum base { MESSAGE, TOKEN_20 };
 
-/* message 46 with a content of 5 bytes, 27 bytes in all; token 20, requests 46 and 41, 38 bytes in all */
+/* message 46 with a content of 5 bytes, 27 bytes in all; token 20, requests 46 and 41, 40 bytes in all */
 static const struct held message = {46, 3, 0, {5, "crown"}};
-static const struct token token = {4, 3, 7, 20, 72, 43, 9, 12, 2, {46, 41}};
+static const struct token token = {4, 3, 7, 20, 72, 43, 9, 12, 30, 2, {46, 41}};
 
 #define LENGTH_FIELD(n) {T_LENGTH, 2, n}
 
@@ -66,10 +66,10 @@ static const struct frame_case cases[] = {
     {"service 256", 12, MESSAGE, 0, {{M_SERVICE, 2, 256}}},
     {"a message as a token", 12, MESSAGE, 0, {{T_KIND, 2, 2}}},
     {"a token as a message", 12, TOKEN_20, 0, {{T_KIND, 2, 1}}},
-    {"a token of 29 bytes", 12, TOKEN_20, 29 - 38, {LENGTH_FIELD(27), {T_COUNT, 1, 0}}},
+    {"a token of 31 bytes", 12, TOKEN_20, 31 - 40, {LENGTH_FIELD(29), {T_COUNT, 1, 0}}},
     {"one request in the room of two", 12, TOKEN_20, 0, {{T_COUNT, 2, 1}}},
     {"three requests in the room of two", 12, TOKEN_20, 0, {{T_COUNT, 2, 3}}},
-    {"17 requests", 12, TOKEN_20, 98 - 38, {LENGTH_FIELD(96), {T_COUNT, 2, 17}}},
+    {"17 requests", 12, TOKEN_20, 100 - 40, {LENGTH_FIELD(98), {T_COUNT, 2, 17}}},
     {"addressee 0", 12, TOKEN_20, 0, {{T_ADDRESSEE, 2, 0}}},
     {"token number 0", 12, TOKEN_20, 0, {{T_NUMBER, 4, 0}}},
     {"token number 2,000,000,001", 12, TOKEN_20, 0, {{T_NUMBER, 4, OVER}}},
@@ -78,6 +78,10 @@ static const struct frame_case cases[] = {
     {"aru at the highest, a blocker", 12, TOKEN_20, 0, {{T_ARU, 4, 72}}},
     {"aru below the highest, nobody", 12, TOKEN_20, 0, {{T_BLOCKER, 2, 0}}},
     {"round count 129", 12, TOKEN_20, 0, {{T_ROUND, 2, 129}}},
+    {"backlog 128", 0, TOKEN_20, 0, {{T_BACKLOG, 2, 128}}},
+    {"backlog 129", 12, TOKEN_20, 0, {{T_BACKLOG, 2, 129}}},
+    {"backlog 256", 12, TOKEN_20, 0, {{T_BACKLOG, 2, 256}}},
+    {"backlog 65535", 12, TOKEN_20, 0, {{T_BACKLOG, 2, 65535}}},
     {"request 0", 12, TOKEN_20, 0, {{T_REQUESTS, 4, 0}}},
     {"a request above the highest", 12, TOKEN_20, 0, {{T_REQUESTS + 4, 4, 73}}},
     {"a request twice", 12, TOKEN_20, 0, {{T_REQUESTS + 4, 4, 46}}},
@@ -115,6 +119,7 @@ static const struct frame_case cases[] = {
     {"12 before 14", 12, MESSAGE, 0, {{M_SERVICE, 2, 2}, {M_SENDER, 2, 8}}},
     {"12 before 15, 16, 18", 12, TOKEN_20, 0,
      {{T_ROUND, 2, 129}, {T_ADDRESSEE, 2, 9}, {T_NUMBER, 4, 19}, {T_HIGHEST, 4, 71}}},
+    {"12 before 13 by the backlog", 12, TOKEN_20, 0, {{T_BACKLOG, 2, 129}, {T_RING, 4, 5}}},
     {"13 before 14", 13, MESSAGE, 0, {{T_RING, 4, 5}, {M_SENDER, 2, 8}}},
     {"13 before 15 to 18", 13, TOKEN_20, 0,
      {{T_REPRESENTATIVE, 2, 7}, {T_ADDRESSEE, 2, 9}, {T_NUMBER, 4, LIMIT}, {T_HIGHEST, 4, 71}}},

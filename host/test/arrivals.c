@@ -18,6 +18,16 @@ struct station reached(uint32_t level)
     return s;
 }
 
+struct station posting(uint32_t level, unsigned posts)
+{
+    struct station s = reached(level);
+
+    s.delivered = level;
+    for (unsigned i = 0; i < posts; i++)
+        add_post(&s, 0, some_content(5 * i % (CONTENT_ROOM + 1), 100 + i).bytes, 5 * i % (CONTENT_ROOM + 1));
+    return s;
+}
+
 static struct arrival arrival_at(const struct station *s, unsigned outcome)
 {
     struct arrival a;
@@ -79,6 +89,7 @@ void forwards(struct arrival *a, struct token leaves)
     a->after.token_number = leaves.number;
     a->after.earlier = a->before.aru;
     a->after.aru = leaves.aru;
+    a->after.own_part = a->after.post_count;
 }
 
 /* held before the call or by it */
@@ -115,6 +126,18 @@ void posts_become(struct station *s, uint32_t first, uint32_t last)
         memset(&s->posts[POST_PLACES - 1], 0, sizeof s->posts[0]);
         s->post_count--;
     }
+}
+
+void sends_new(struct arrival *a, struct token *leaves, uint32_t count)
+{
+    uint32_t first = leaves->highest + 1, last = leaves->highest + count;
+
+    posts_become(&a->after, first, last);
+    for (uint32_t n = first; n <= last; n++)
+        broadcasts(a, n);
+    leaves->highest = leaves->aru = a->after.level = last;
+    leaves->backlog = a->after.post_count;
+    a->after.broadcast += (uint8_t)count;
 }
 
 void safe_to(struct station *s, uint32_t safe)

@@ -3,29 +3,6 @@
 #include "tally.h"
 #include "tests.h"
 
-/* the level's messages, all delivered, and so many posts waiting */
-static struct station posting(uint32_t level, unsigned posts)
-{
-    struct station s = reached(level);
-
-    s.delivered = level;
-    for (unsigned i = 0; i < posts; i++)
-        add_post(&s, 0, some_content(5 * i % (CONTENT_ROOM + 1), 100 + i).bytes, 5 * i % (CONTENT_ROOM + 1));
-    return s;
-}
-
-/* so many new messages behind `highest`, broadcast and held; the level and aru rise with it */
-static void sends_new(struct arrival *a, struct token *t, uint32_t count)
-{
-    uint32_t first = t->highest + 1, last = t->highest + count;
-
-    posts_become(&a->after, first, last);
-    for (uint32_t n = first; n <= last; n++)
-        broadcasts(a, n);
-    t->highest = t->aru = a->after.level = last;
-    a->after.broadcast += (uint8_t)count;
-}
-
 /* round count, own last count and posts, no repeats: how many new messages, and the round count left */
 static void rounds(void)
 {
@@ -85,6 +62,7 @@ static void repeats_and_new(void)
     t = token_for_7(5, 11, 11, 0);
     t.addressee = 9;
     t.round = 24;
+    t.backlog = 15;
     forwards(&a, t);
     try_arrival("three repeats and one new, leaves 24", &a);
 }
@@ -108,11 +86,12 @@ static void repeats_alone(void)
     t = requesting_also(token_for_7(5, 40, 0, 9), 17, 32);
     t.addressee = 9;
     t.round = 128;
+    t.backlog = 1;
     forwards(&a, t);
     delivers(&a, 1, 16);
     try_arrival("16 repeats of 64 bytes and 16 requests fill the buffer", &a);
     tally_case("the buffer for frames");
-    check(a.want.answer.frames == 1470, "%u bytes", a.want.answer.frames);
+    check(a.want.answer.frames == 1472, "%u bytes", a.want.answer.frames);
 }
 
 /* requests that are not held stay, in order; missing numbers are added behind them, none twice */
@@ -244,6 +223,7 @@ static void beyond(void)
     struct token t;
     struct arrival a = token_arrives(&s, token_for_7(4, 1000, 7, 9), &t);
 
+    t.backlog = 16;
     forwards(&a, requesting_also(t, 8, 23));
     try_arrival("highest far beyond safe mark + 32", &a);
 }

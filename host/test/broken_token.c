@@ -3,20 +3,20 @@
 #include "records.h"
 #include "whole.h"
 
-/* The sample's token has 42 bytes: highest 50, aru 43, blocker 7, requests 46, 48, 49. */
+/* The sample's token has 44 bytes: highest 50, aru 43, blocker 7, requests 46, 48, 49. */
 static const struct record_case cases[] = {
     /* 10 */
-    {"length one more", RICH, C_TOKEN, {{T(T_LENGTH), 2, 41}}},
-    {"length one less", RICH, C_TOKEN, {{T(T_LENGTH), 2, 39}}},
-    {"length counting itself", RICH, C_TOKEN, {{T(T_LENGTH), 2, 42}}},
-    {"length exact in its lower byte", RICH, C_TOKEN, {{T(T_LENGTH), 2, 40 + 256}}},
-    {"size one less", RICH, C_TOKEN, {{TOKEN_SIZE, 1, 41}}},
-    {"size one more", RICH, C_TOKEN, {{TOKEN_SIZE, 1, 43}}},
-    {"size 94", RICH, C_TOKEN, {{TOKEN_SIZE, 1, TOKEN_ROOM}}},
+    {"length one more", RICH, C_TOKEN, {{T(T_LENGTH), 2, 43}}},
+    {"length one less", RICH, C_TOKEN, {{T(T_LENGTH), 2, 41}}},
+    {"length counting itself", RICH, C_TOKEN, {{T(T_LENGTH), 2, 44}}},
+    {"length exact in its lower byte", RICH, C_TOKEN, {{T(T_LENGTH), 2, 42 + 256}}},
+    {"size one less", RICH, C_TOKEN, {{TOKEN_SIZE, 1, 43}}},
+    {"size one more", RICH, C_TOKEN, {{TOKEN_SIZE, 1, 45}}},
+    {"size 96", RICH, C_TOKEN, {{TOKEN_SIZE, 1, TOKEN_ROOM}}},
     {"size 1", RICH, C_TOKEN, {{TOKEN_SIZE, 1, 1}, {TOKEN, TOKEN_ROOM, 0}}},
     {"size 2, length 0", RICH, C_TOKEN, {{TOKEN_SIZE, 1, 2}, {TOKEN, TOKEN_ROOM, 0}}},
     {"9 bytes, length exact", RICH, C_TOKEN, {SIZE(9), {T(9), TOKEN_ROOM - 9, 0}}},
-    {"30 bytes, all zero", RICH, C_TOKEN, {{TOKEN_SIZE, 1, TOKEN_LEAST}, {TOKEN, TOKEN_ROOM, 0}}},
+    {"32 bytes, all zero", RICH, C_TOKEN, {{TOKEN_SIZE, 1, TOKEN_LEAST}, {TOKEN, TOKEN_ROOM, 0}}},
 
     /* 11, and of kind 2 */
     {"kind 0", RICH, C_TOKEN, {{T(T_KIND), 2, 0}}},
@@ -27,12 +27,12 @@ static const struct record_case cases[] = {
 
     /* 12: the size and the number of requests */
     {"10 bytes: the header alone", RICH, C_TOKEN, {SIZE(10), {T(10), TOKEN_ROOM - 10, 0}}},
-    {"29 bytes", RICH, C_TOKEN, {SIZE(TOKEN_LEAST - 1), {T(T_COUNT), TOKEN_ROOM - T_COUNT, 0}}},
-    {"31 bytes, no requests", RICH, C_TOKEN, {SIZE(TOKEN_LEAST + 1), {T(T_COUNT), TOKEN_ROOM - T_COUNT, 0}}},
-    {"30 bytes, 3 requests", RICH, C_TOKEN, {SIZE(TOKEN_LEAST), {T(T_REQUESTS), TOKEN_ROOM - T_REQUESTS, 0}}},
-    {"a request's last byte missing", RICH, C_TOKEN, {SIZE(41)}},
-    {"room for a request more", RICH, C_TOKEN, {SIZE(46)}},
-    {"room for a request less", RICH, C_TOKEN, {SIZE(38), {REQUEST(2), 4, 0}}},
+    {"31 bytes", RICH, C_TOKEN, {SIZE(TOKEN_LEAST - 1), {T(T_COUNT), TOKEN_ROOM - T_COUNT, 0}}},
+    {"33 bytes, no requests", RICH, C_TOKEN, {SIZE(TOKEN_LEAST + 1), {T(T_COUNT), TOKEN_ROOM - T_COUNT, 0}}},
+    {"32 bytes, 3 requests", RICH, C_TOKEN, {SIZE(TOKEN_LEAST), {T(T_REQUESTS), TOKEN_ROOM - T_REQUESTS, 0}}},
+    {"a request's last byte missing", RICH, C_TOKEN, {SIZE(43)}},
+    {"room for a request more", RICH, C_TOKEN, {SIZE(48)}},
+    {"room for a request less", RICH, C_TOKEN, {SIZE(40), {REQUEST(2), 4, 0}}},
     {"2 requests in the room of 3", RICH, C_TOKEN, {{T(T_COUNT), 2, 2}}},
     {"4 requests in the room of 3", RICH, C_TOKEN, {{T(T_COUNT), 2, 4}}},
     {"17 requests in the room of 16", RICH, C_TOKEN, {SIZE(TOKEN_ROOM), {T(T_COUNT), 2, REQUEST_PLACES + 1}}},
@@ -53,6 +53,9 @@ static const struct record_case cases[] = {
     {"aru below the highest, nobody", RICH, C_TOKEN, {{T(T_BLOCKER), 2, 0}}},
     {"round count 129", RICH, C_TOKEN, {{T(T_ROUND), 2, MOST_ROUND + 1}}},
     {"round count 256", RICH, C_TOKEN, {{T(T_ROUND), 2, 256}}},
+    {"backlog 129", RICH, C_TOKEN, {{T(T_BACKLOG), 2, MOST_BACKLOG + 1}}},
+    {"backlog 256", RICH, C_TOKEN, {{T(T_BACKLOG), 2, 256}}},
+    {"backlog 65535", RICH, C_TOKEN, {{T(T_BACKLOG), 2, 65535}}},
     {"request 0", RICH, C_TOKEN, {{REQUEST(1), 4, 0}}},
     {"the last request 0", RICH, C_TOKEN, {{REQUEST(2), 4, 0}}},
     {"a request above the highest", RICH, C_TOKEN, {{REQUEST(2), 4, 51}}},
@@ -77,7 +80,7 @@ static const struct record_case cases[] = {
     {"blocker a member in its lower byte", RICH, C_TOKEN, {{T(T_BLOCKER), 2, 0x0107}}},
 
     /* its part not in use */
-    {"the byte past the token", RICH, C_UNUSED, {{T(42), 1, 1}}},
+    {"the byte past the token", RICH, C_UNUSED, {{T(44), 1, 1}}},
     {"the last byte of the token's room", RICH, C_UNUSED, {{T(TOKEN_ROOM - 1), 1, 1}}},
     {"no leave, the token as it was", RICH, C_UNUSED, {{TOKEN_SIZE, 1, 0}}},
     {"no leave, the first byte", PLAIN, C_UNUSED, {{TOKEN, 1, 1}}},

@@ -120,6 +120,14 @@ static void take_message(struct reply *out, struct bytes frame)
 
 /* ---- a token is accepted */
 
+/* of a round's messages, those in proportion to what waits here, but one at least; without a post, all */
+static uint32_t share(uint32_t waiting, uint32_t others_backlog)
+{
+    uint32_t part = waiting == 0 ? 24 : 24 * waiting / (others_backlog + waiting);
+
+    return part == 0 ? 1 : part;
+}
+
 /* step 2; how many were repeated */
 static uint32_t repeat(struct reply *out, struct token *t)
 {
@@ -235,7 +243,9 @@ static void let_go(uint8_t *r, uint32_t safe)
 static void accept_token(struct reply *out, struct token t)
 {
     uint8_t *r = out->record;
-    uint32_t others = minus(t.round, r[BROADCAST]), allowance = lesser(8, minus(24, others)), sent, safe;
+    uint32_t others = minus(t.round, r[BROADCAST]), others_backlog = minus(t.backlog, r[OWN_PART]);
+    uint32_t allowance = lesser(lesser(8, minus(24, others)), share(r[POST_COUNT], others_backlog));
+    uint32_t sent, safe;
 
     out->answer.outcome = 6;
     sent = repeat(out, &t);
@@ -247,9 +257,11 @@ static void accept_token(struct reply *out, struct token t)
         safe = get(r + SAFE, 4);
     ask_for_missing(r, &t, safe);
     t.round = (uint16_t)lesser(others + sent, MOST_ROUND);
+    t.backlog = (uint16_t)lesser(others_backlog + r[POST_COUNT], MOST_BACKLOG);
     t.number++;
     t.addressee = next_member(r);
     r[BROADCAST] = (uint8_t)sent;
+    r[OWN_PART] = r[POST_COUNT];
     forward(out, &t);
     deliver(out, safe);
     let_go(r, safe);

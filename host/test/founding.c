@@ -96,7 +96,7 @@ static void try_case(const struct founding *f)
 /* the first token of ring 4 with ids 3 and 7, as the specification gives it */
 static void first_token_of_ring_4(void)
 {
-    static const uint8_t token[TOTEM_TOKEN_LEN] = {0x1C, 0, 2, 0, 4, 0, 0, 0, 3, 0, 3, 0, 1};
+    static const uint8_t token[TOTEM_TOKEN_LEN] = {0x1E, 0, 2, 0, 4, 0, 0, 0, 3, 0, 3, 0, 1};
     static const uint8_t list[4] = {3, 0, 7, 0};
     static const uint16_t ids[2] = {3, 7};
     struct station s = fresh_station(7, 4, 2, ids);

@@ -38,7 +38,8 @@ static bool token_follows(const uint8_t *f, size_t size)
         return false;
     t = token_of(f);
     return t.addressee != 0 && is_number(t.number) && t.highest <= LIMIT && t.aru <= t.highest
-           && (t.blocker == 0) == (t.aru == t.highest) && t.round <= MOST_ROUND && requests_follow(&t);
+           && (t.blocker == 0) == (t.aru == t.highest) && t.round <= MOST_ROUND && t.backlog <= MOST_BACKLOG
+           && requests_follow(&t);
 }
 
 unsigned layout_refusal(const uint8_t *f, size_t size)
@@ -81,6 +82,7 @@ struct token token_of(const uint8_t *f)
     t.aru = get(f + T_ARU, 4);
     t.blocker = (uint16_t)get(f + T_BLOCKER, 2);
     t.round = (uint16_t)get(f + T_ROUND, 2);
+    t.backlog = (uint16_t)get(f + T_BACKLOG, 2);
     t.count = (uint16_t)get(f + T_COUNT, 2);
     for (unsigned i = 0; i < t.count; i++)
         t.requests[i] = get(f + T_REQUESTS + 4 * i, 4);

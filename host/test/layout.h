@@ -22,18 +22,19 @@ enum {
     TOKEN_NUMBER = 2251,
     BROADCAST = 2255,
     STALL = 2256,
-    TOKEN_SIZE = 2257,
-    TOKEN = 2258,
-    POST_COUNT = 2352,
-    POST_SERVICES = 2353,
-    POST_LENGTHS = 2385,
-    POST_CONTENTS = 2401,
-    RECORD_END = 3425
+    OWN_PART = 2257,
+    TOKEN_SIZE = 2258,
+    TOKEN = 2259,
+    POST_COUNT = 2355,
+    POST_SERVICES = 2356,
+    POST_LENGTHS = 2388,
+    POST_CONTENTS = 2404,
+    RECORD_END = 3428
 };
 
 /* counts */
 enum { LEAST_MEMBERS = 2, MEMBER_PLACES = 8, HELD_PLACES = 32, POST_PLACES = 16, REQUEST_PLACES = 16 };
-enum { MOST_BROADCAST = 16, MOST_ROUND = 128 };
+enum { MOST_BROADCAST = 16, MOST_ROUND = 128, MOST_BACKLOG = 128 };
 
 /* the largest ring, message or token number, one more, and all bits of four bytes */
 #define LIMIT 2000000000u
@@ -62,8 +63,9 @@ enum {
     T_ARU = 20,
     T_BLOCKER = 24,
     T_ROUND = 26,
-    T_COUNT = 28,
-    T_REQUESTS = 30
+    T_BACKLOG = 28,
+    T_COUNT = 30,
+    T_REQUESTS = 32
 };
 
 /* the same of a message */

@@ -11,9 +11,25 @@
 #include "random_station.h"
 #include "tally.h"
 #include "tests.h"
+#include "words.h"
 
 static unsigned long outcomes[8], refusals[20];
-static unsigned long deaf, delivering, new_messages;
+static unsigned long deaf, delivering, new_messages, limited;
+
+/* would more posts have gone out if nothing waited elsewhere? */
+static bool share_limits(const uint8_t *record, struct bytes frame, const struct reply *r)
+{
+    uint8_t alone[TOKEN_ROOM];
+    struct reply other;
+
+    if (r->answer.outcome != 6)
+        return false;
+    memcpy(alone, frame.at, frame.size);
+    put(alone + T_BACKLOG, 2, 0);
+    expect_arrival(bytes_of(record, RECORD_END), bytes_of(alone, frame.size), FRAMES_ROOM, DELIVERIES_ROOM,
+                   &other);
+    return other.record[POST_COUNT] < r->record[POST_COUNT];
+}
 
 static void count_answer(const struct station *s, const struct reply *r)
 {
@@ -35,6 +51,7 @@ static void try_frame(const char *name, const struct station *s, const uint8_t *
     try_arrive(name, bytes_of(record, RECORD_END), frame, pattern(frames_len), pattern(deliveries_len),
                &want);
     count_answer(s, &want);
+    limited += share_limits(record, frame, &want);
 }
 
 /* good frames, damaged ones, any bytes, and now and then a record that a change has broken */
@@ -65,7 +82,7 @@ static void frames_at_stations(unsigned count)
 static void long_frames(void)
 {
     static const size_t sizes[] = {201,   256,   1000,       65535,      65536,
-                                   65537, 65538, 65536 + 30, 65536 + 42, LENT_MOST};
+                                   65537, 65538, 65536 + 32, 65536 + 44, LENT_MOST};
     static uint8_t frame[LENT_MOST];
     uint8_t record[RECORD_END];
 
@@ -89,11 +106,12 @@ static void report(void)
         check(outcomes[outcome] > 0, "no arrival had outcome %u", outcome);
     for (unsigned number = 1; number <= 18; number = number == 2 ? 10 : number + 1)
         check(refusals[number] > 0, "no arrival was refused with %u", number);
-    check(deaf > 0 && delivering > 0 && new_messages > 0, "%lu deaf, %lu delivering, %lu with new messages",
-          deaf, delivering, new_messages);
+    check(deaf > 0 && delivering > 0 && new_messages > 0 && limited > 0,
+          "%lu deaf, %lu delivering, %lu with new messages, %lu limited by the backlog", deaf, delivering,
+          new_messages, limited);
     printf("host: random arrivals: %lu kept, %lu had, %lu ahead, %lu accepted (%lu deaf, %lu with new "
-           "messages), %lu refused\n",
-           outcomes[3], outcomes[4], outcomes[5], outcomes[6], deaf, new_messages, outcomes[0]);
+           "messages, %lu limited by the backlog), %lu refused\n",
+           outcomes[3], outcomes[4], outcomes[5], outcomes[6], deaf, new_messages, limited, outcomes[0]);
 }
 
 void test_random_arrivals(bool brief)

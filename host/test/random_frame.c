@@ -65,6 +65,7 @@ static size_t random_token(const struct station *s, uint8_t *out)
         t.aru = s->aru;
     t.blocker = t.aru == t.highest ? 0 : chance(2) ? s->own : some_member(s);
     t.round = (uint16_t)chance_from(0, chance(4) == 0 ? MOST_ROUND : 30);
+    t.backlog = (uint16_t)chance_from(0, chance(4) == 0 ? 20 : MOST_BACKLOG);
     random_requests(&t);
     return token_bytes(&t, out);
 }
@@ -78,7 +79,8 @@ size_t damage(uint8_t frame[FRAME_MOST], size_t size)
 {
     static const unsigned words[][2] = {{T_KIND, 2},    {T_RING, 4}, {T_REPRESENTATIVE, 2}, {T_ADDRESSEE, 2},
                                         {T_NUMBER, 4},  {T_ARU, 4},  {T_HIGHEST, 4},        {M_SERVICE, 2},
-                                        {T_BLOCKER, 2}, {T_ROUND, 2}, {T_COUNT, 2},         {T_LENGTH, 2}};
+                                        {T_BLOCKER, 2}, {T_ROUND, 2}, {T_BACKLOG, 2},       {T_COUNT, 2},
+                                        {T_LENGTH, 2}};
     unsigned pick = chance(sizeof words / sizeof words[0]), at = chance(FRAME_MOST);
 
     switch (chance(4)) {

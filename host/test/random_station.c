@@ -24,6 +24,7 @@ static void random_token(struct station *s)
     t->aru = chance(3) == 0 ? t->highest : chance_from(0, t->highest);
     t->blocker = t->aru == t->highest ? 0 : s->members[chance(s->member_count)];
     t->round = (uint16_t)chance_from(0, MOST_ROUND);
+    t->backlog = (uint16_t)chance_from(0, MOST_BACKLOG);
     t->count = (uint16_t)chance_from(0, t->highest < REQUEST_PLACES ? t->highest : REQUEST_PLACES);
     for (unsigned i = 0; i < t->count; i++)
         t->requests[i] = t->highest - i;
@@ -57,6 +58,7 @@ struct station random_station(void)
     s.token_number = chance_from(0, LIMIT);
     s.broadcast = (uint8_t)chance(MOST_BROADCAST + 1);
     s.stall = (uint8_t)chance(256);
+    s.own_part = (uint8_t)chance(POST_PLACES + 1);
     if (chance(3) != 0)
         random_token(&s);
     for (unsigned n = chance(POST_PLACES + 1); n > 0; n--) {
@@ -83,10 +85,10 @@ void change_a_field(uint8_t record[RECORD_END])
     static const unsigned words[][2] = {
         {OWN, 2},    {RING, 4},    {MEMBER_COUNT, 1}, {LEVEL, 4}, {SAFE, 4},       {DELIVERED, 4},
         {ARU, 4},    {EARLIER, 4}, {TOKEN_NUMBER, 4}, {STALL, 1}, {TOKEN_SIZE, 1}, {POST_COUNT, 1},
-        {BROADCAST, 1}};
+        {BROADCAST, 1}, {OWN_PART, 1}};
     static const unsigned token_words[][2] = {
         {T_LENGTH, 2}, {T_KIND, 2}, {T_RING, 4},    {T_REPRESENTATIVE, 2}, {T_ADDRESSEE, 2}, {T_NUMBER, 4},
-        {T_HIGHEST, 4}, {T_ARU, 4}, {T_BLOCKER, 2}, {T_ROUND, 2},          {T_COUNT, 2}};
+        {T_HIGHEST, 4}, {T_ARU, 4}, {T_BLOCKER, 2}, {T_ROUND, 2},          {T_BACKLOG, 2},   {T_COUNT, 2}};
     unsigned at, width = 1, place = chance(HELD_PLACES), post = chance(POST_PLACES), pick;
 
     switch (chance(9)) {

@@ -21,6 +21,7 @@ static size_t fitting_token(const uint8_t *r, uint8_t out[TOKEN_ROOM])
     t.aru = get(r + LEVEL, 4);
     t.blocker = t.aru == t.highest ? 0 : t.addressee;
     t.round = 20;
+    t.backlog = 40;
     t.count = 1;
     t.requests[0] = lesser(get(r + SAFE, 4) + 1, LIMIT);
     return token_bytes(&t, out);

@@ -40,7 +40,7 @@ static void tokens(void)
 
 static void buffers(void)
 {
-    static const size_t small[] = {0, 1, TOKEN_LEAST - 1, TOKEN_LEAST, 42, TOKEN_ROOM, FRAMES_ROOM - 1};
+    static const size_t small[] = {0, 1, TOKEN_LEAST - 1, TOKEN_LEAST, 44, TOKEN_ROOM, FRAMES_ROOM - 1};
     static const size_t large[] = {FRAMES_ROOM, FRAMES_ROOM + 1, 2 * FRAMES_ROOM, 65536 + 100};
     struct station s = sample(RICH);
 

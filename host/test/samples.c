@@ -21,7 +21,7 @@ static struct station level_7(void)
 static struct station rich(void)
 {
     struct station s = fresh_station(7, 4, 4, members);
-    const struct token forwarded = {4, 3, 9, 19, 50, 43, 7, 12, 3, {46, 48, 49}};
+    const struct token forwarded = {4, 3, 9, 19, 50, 43, 7, 12, 9, 3, {46, 48, 49}};
 
     hold(&s, 41, 3, 0, some_content(CONTENT_ROOM, 200));
     hold(&s, 42, 7, 1, some_content(0, 0));
@@ -39,6 +39,7 @@ static struct station rich(void)
     s.token_number = 19;
     s.broadcast = 5;
     s.stall = 3;
+    s.own_part = 2;
     s.leave = true;
     s.token = forwarded;
     add_post(&s, 1, (const uint8_t *)"crown", 5);

@@ -11,13 +11,13 @@
 static void numbers(void)
 {
     tally_case("the header's numbers");
-    check(TOTEM_STATION_LEN == 3425 && RECORD_END == 3425, "the record's length");
-    check(TOTEM_FRAMES_LEN == 1470 && FRAMES_ROOM == 1470, "the buffer for frames: 16 messages and a token");
+    check(TOTEM_STATION_LEN == 3428 && RECORD_END == 3428, "the record's length");
+    check(TOTEM_FRAMES_LEN == 1472 && FRAMES_ROOM == 1472, "the buffer for frames: 16 messages and a token");
     check(TOTEM_DELIVERIES_LEN == 2752 && DELIVERIES_ROOM == 2752,
           "the buffer for deliveries: 32 messages");
-    check(TOKEN_LEAST == 30 && TOKEN_ROOM == 94, "the sizes of a token");
+    check(TOKEN_LEAST == 32 && TOKEN_ROOM == 96, "the sizes of a token");
     check(MESSAGE_LEAST == 22 && MESSAGE_ROOM == 86, "the sizes of a message");
-    check(TOTEM_TOKEN_LEN == 30 && TOTEM_MOST_CONTENT == 64 && TOTEM_MOST_NUMBER == 2000000000, "sizes");
+    check(TOTEM_TOKEN_LEN == 32 && TOTEM_MOST_CONTENT == 64 && TOTEM_MOST_NUMBER == 2000000000, "sizes");
     check(TOTEM_LEAST_MEMBERS == 2 && TOTEM_MOST_MEMBERS == 8 && TOTEM_MOST_POSTS == 16, "counts");
     check(TOTEM_AGREED == 0 && TOTEM_SAFE == 1, "services");
     check(TOTEM_FOUNDED == 1 && TOTEM_POSTED == 2 && TOTEM_KEPT == 3 && TOTEM_HAD == 4 && TOTEM_AHEAD == 5
@@ -58,8 +58,8 @@ static void offsets(void)
               "held message %u", (unsigned)h->number);
     }
     check(get(r + ARU, 4) == 43 && get(r + EARLIER, 4) == 40 && get(r + TOKEN_NUMBER, 4) == 19, "visits");
-    check(r[BROADCAST] == 5 && r[STALL] == 3, "counts");
-    check(r[TOKEN_SIZE] == 42 && size == 42 && memcmp(r + TOKEN, token, size) == 0, "token");
+    check(r[BROADCAST] == 5 && r[STALL] == 3 && r[OWN_PART] == 2, "counts");
+    check(r[TOKEN_SIZE] == 44 && size == 44 && memcmp(r + TOKEN, token, size) == 0, "token");
     check(r[POST_COUNT] == 4, "posts");
     for (unsigned i = 0; i < s.post_count; i++)
         check(get(r + POST_SERVICE(i), 2) == s.posts[i].service

@@ -103,7 +103,7 @@ static void arriving_message(uint32_t number)
 /* it asks for all that is held and for more */
 static void arriving_token(void)
 {
-    const struct token t = {4, 3, 7, 20, 72, 45, 9, 10, 16,
+    const struct token t = {4, 3, 7, 20, 72, 45, 9, 10, 50, 16,
                             {41, 42, 43, 44, 45, 47, 50, 1, 2, 3, 46, 48, 49, 51, 52, 53}};
 
     frame_size = token_bytes(&t, frame);

@@ -104,6 +104,7 @@ size_t token_bytes(const struct token *t, uint8_t out[TOKEN_ROOM])
     at = word(at, 4, t->aru);
     at = word(at, 2, t->blocker);
     at = word(at, 2, t->round);
+    at = word(at, 2, t->backlog);
     at = word(at, 2, t->count);
     for (unsigned i = 0; i < t->count; i++)
         at = word(at, 4, t->requests[i]);
@@ -150,6 +151,7 @@ void station_bytes(const struct station *s, uint8_t out[RECORD_END])
     at = word(at, 4, s->token_number);
     at = word(at, 1, s->broadcast);
     at = word(at, 1, s->stall);
+    at = word(at, 1, s->own_part);
     at = word(at, 1, s->leave ? (uint32_t)token_bytes(&s->token, token) : 0);
     memcpy(at, token, TOKEN_ROOM);
     at += TOKEN_ROOM;

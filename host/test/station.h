@@ -28,7 +28,7 @@ struct token {
     uint32_t ring;
     uint16_t representative, addressee;
     uint32_t number, highest, aru;
-    uint16_t blocker, round, count;
+    uint16_t blocker, round, backlog, count;
     uint32_t requests[REQUEST_PLACES];
 };
 
@@ -41,7 +41,7 @@ struct station {
     uint8_t held_count; /* in any order */
     struct held held[HELD_PLACES];
     uint32_t aru, earlier, token_number;
-    uint8_t broadcast, stall;
+    uint8_t broadcast, stall, own_part;
     bool leave;
     struct token token;
     uint8_t post_count;

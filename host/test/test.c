@@ -25,6 +25,7 @@ int main(int count, char **arguments)
     test_messages();
     test_visits();
     test_broadcasts();
+    test_backlogs();
     test_arrival_refusals();
     test_resending();
     test_whole();

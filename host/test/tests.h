@@ -10,6 +10,7 @@ void test_posting(void);
 void test_messages(void);
 void test_visits(void);
 void test_broadcasts(void);
+void test_backlogs(void);
 void test_arrival_refusals(void);
 void test_resending(void);
 void test_whole(void);

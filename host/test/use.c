@@ -69,14 +69,14 @@ static void again(void)
     station_bytes(&other, crowd);
     memcpy(first, record, RECORD_END);
     check(same(totem_post(first, RECORD_END, 0, (const uint8_t *)"up", 2), posted()), "first post");
-    check(same(totem_resend(record, RECORD_END, frames[0], TOTEM_FRAMES_LEN), resent(42)), "first resending");
+    check(same(totem_resend(record, RECORD_END, frames[0], TOTEM_FRAMES_LEN), resent(44)), "first resending");
     for (unsigned i = 0; i < 100; i++) {
         memcpy(now, record, RECORD_END);
         check(same(totem_post(now, RECORD_END, 0, (const uint8_t *)"up", 2), posted())
                   && memcmp(now, first, RECORD_END) == 0,
               "post %u", i);
         check(same(totem_post(crowd, RECORD_END, 0, (const uint8_t *)"up", 2), refused(9)), "full queue");
-        check(same(totem_resend(record, RECORD_END, frames[1], TOTEM_FRAMES_LEN), resent(42))
+        check(same(totem_resend(record, RECORD_END, frames[1], TOTEM_FRAMES_LEN), resent(44))
                   && memcmp(frames[0], frames[1], TOTEM_FRAMES_LEN) == 0,
               "resending %u", i);
     }

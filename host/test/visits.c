@@ -184,6 +184,7 @@ static void resending(void)
 
     a.after.broadcast = 0;
     a.after.stall = 0;
+    t.backlog = 4;
     t = requesting_also(requesting_also(t, 46, 46), 48, 49);
     forwards(&a, requesting_also(t, 51, 63));
     delivers(&a, 43, 43);

@@ -22,8 +22,8 @@ static bool in_range(const uint8_t *r)
     for (uint64_t n = safe + 1; n <= safe + HELD_PLACES; n++)
         if (n > LIMIT && place_used(r, n))
             return false;
-    return r[MEMBER_COUNT] <= MEMBER_PLACES && r[BROADCAST] <= MOST_BROADCAST && r[TOKEN_SIZE] <= TOKEN_ROOM
-           && r[POST_COUNT] <= POST_PLACES;
+    return r[MEMBER_COUNT] <= MEMBER_PLACES && r[BROADCAST] <= MOST_BROADCAST && r[OWN_PART] <= POST_PLACES
+           && r[TOKEN_SIZE] <= TOKEN_ROOM && r[POST_COUNT] <= POST_PLACES;
 }
 
 static bool senders_members(const uint8_t *r)

@@ -54,6 +54,9 @@ static const struct record_case cases[] = {
     {"token number 2,000,000,000", PLAIN, WHOLE, {{TOKEN_NUMBER, 4, LIMIT}}},
     {"16 broadcast", PLAIN, WHOLE, {{BROADCAST, 1, MOST_BROADCAST}}},
     {"stall count 255", PLAIN, WHOLE, {{STALL, 1, 255}}},
+    {"own part 0, 4 posts waiting", RICH, WHOLE, {{OWN_PART, 1, 0}}},
+    {"own part 16", RICH, WHOLE, {{OWN_PART, 1, POST_PLACES}}},
+    {"own part 16, all else fresh", PLAIN, WHOLE, {{OWN_PART, 1, POST_PLACES}}},
 
     /* the token that may be resent */
     {"no leave, all else in use", RICH, WHOLE, {{TOKEN_SIZE, 1, 0}, {TOKEN, TOKEN_ROOM, 0}}},
@@ -69,10 +72,12 @@ static const struct record_case cases[] = {
     {"aru 0", RICH, WHOLE, {{T(T_ARU), 4, 0}}},
     {"round count 0", RICH, WHOLE, {{T(T_ROUND), 2, 0}}},
     {"round count 128", RICH, WHOLE, {{T(T_ROUND), 2, MOST_ROUND}}},
+    {"backlog 0, below the own part", RICH, WHOLE, {{T(T_BACKLOG), 2, 0}}},
+    {"backlog 128", RICH, WHOLE, {{T(T_BACKLOG), 2, MOST_BACKLOG}}},
     {"requests 1, 50 and one that is held", RICH, WHOLE,
      {{REQUEST(0), 4, 1}, {REQUEST(1), 4, 50}, {REQUEST(2), 4, 41}}},
-    {"2 requests", RICH, WHOLE, {SIZE(38), {T(T_COUNT), 2, 2}, {REQUEST(2), 4, 0}}},
-    {"4 requests", RICH, WHOLE, {SIZE(46), {T(T_COUNT), 2, 4}, {REQUEST(3), 4, 2}}},
+    {"2 requests", RICH, WHOLE, {SIZE(40), {T(T_COUNT), 2, 2}, {REQUEST(2), 4, 0}}},
+    {"4 requests", RICH, WHOLE, {SIZE(48), {T(T_COUNT), 2, 4}, {REQUEST(3), 4, 2}}},
     {"highest 0 and no requests, nobody", RICH, WHOLE,
      {SIZE(TOKEN_LEAST), {T(T_HIGHEST), 8, 0}, {T(T_BLOCKER), 2, 0}, {T(T_COUNT), TOKEN_ROOM - T_COUNT, 0}}},
 

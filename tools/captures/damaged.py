@@ -24,9 +24,9 @@ class Dice(random.Random):
         aru = self.choice((seq, max(0, seq - self.randint(0, 20)), self.randint(0, seq)))
         count = min(seq, self.choice((0, 1, 16, 17, self.randint(0, 16))))
         rtr = self.sample(range(1, seq + 1), count)
-        fcc = self.choice((0, 24, 128, self.randint(0, 128)))
+        fcc, backlog = (self.choice((0, 24, 128, self.randint(0, 128))) for _ in range(2))
         return packed(Token(self.number(), self.id(), self.id(), self.number(), seq, aru, 0 if aru == seq else self.id(),
-                            fcc, tuple(rtr)))
+                            fcc, backlog, tuple(rtr)))
 
     def frame(self):
         return self.choice((self.message, self.token))()

@@ -85,4 +85,4 @@ def line(frame):
         contents = bytes.fromhex(one("contents").replace(":", ""))
         return logger.message(ring, rep, one("sender_id"), one("message.seq"), one("conf_id"), one("service"), contents)
     return logger.token(ring, rep, one("addressee"), one("token_seq"), one("token.seq"), one("aru"), one("aru_id"),
-                        one("fcc"), all_of("rtr"))
+                        one("fcc"), one("backlog"), all_of("rtr"))

@@ -8,9 +8,9 @@ def message(ring, rep, sender_id, seq, conf_id, service, contents):
         ring, rep, sender_id, seq, conf_id, service, text)
 
 
-def token(ring, rep, addressee, token_seq, seq, aru, aru_id, fcc, rtr):
-    return "token ring=%s rep=%s addressee=%s token_seq=%s seq=%s aru=%s aru_id=%s fcc=%s rtr=[%s]" % (
-        ring, rep, addressee, token_seq, seq, aru, "nobody" if str(aru_id) == "0" else aru_id, fcc,
+def token(ring, rep, addressee, token_seq, seq, aru, aru_id, fcc, backlog, rtr):
+    return "token ring=%s rep=%s addressee=%s token_seq=%s seq=%s aru=%s aru_id=%s fcc=%s backlog=%s rtr=[%s]" % (
+        ring, rep, addressee, token_seq, seq, aru, "nobody" if str(aru_id) == "0" else aru_id, fcc, backlog,
         ",".join(str(number) for number in rtr))
 
 

@@ -46,11 +46,11 @@ def changed(frame, at, word):
 
 def samples():
     """What the demo doesn't show: many messages at once, and every refusal."""
-    first = packed(Token(4, 3, 3, 1, 0, 0, 0, 0, ()))
+    first = packed(Token(4, 3, 3, 1, 0, 0, 0, 0, 0, ()))
     message = packed(Message(4, 3, 7, 1, 1, b"up\n"))
-    token = packed(Token(4, 3, 3, 3, 1, 0, 3, 1, (1,)))
+    token = packed(Token(4, 3, 3, 3, 1, 0, 3, 1, 0, (1,)))
     many = b"".join(packed(Message(4, 3, 7, n, n % 2, b"%d" % n)) for n in (1, 5, 6, 7, 8))
-    many += packed(Token(4, 3, 3, 6, 8, 1, 3, 5, (2, 3, 4)))
+    many += packed(Token(4, 3, 3, 6, 8, 1, 3, 5, 11, (2, 3, 4)))
     damaged = [
         message[:-1],                               # 10: cut short
         message + b"\0",                            # 10: one byte of a second frame
@@ -61,7 +61,8 @@ def samples():
         changed(token, 8, 0),                       # 12: representative
         changed(token, 20, 2),                      # 12: aru above seq
         changed(token, 24, 0),                      # 12: nobody
-        changed(token, 28, 2),                      # 12: two requests, one there
+        changed(token, 28, 129),                    # 12: backlog
+        changed(token, 30, 2),                      # 12: two requests, one there
         changed(message, 10, 0) + message + token,  # 12: sender, and two frames that read
     ]
     return [

@@ -3,8 +3,10 @@
 
 use crate::arena::{Arena, Part};
 use crate::call::{Ask, Call};
+use crate::flow::Flow;
 use crate::frames;
 use crate::layout::*;
+use crate::seen::Seen;
 use crate::sides::{Answer, ACCEPTED, FOUNDED, KEPT, OUTCOMES};
 
 #[derive(Clone, Copy)]
@@ -34,9 +36,15 @@ pub enum Event {
     Null,
     LongInput,
     LongRecord,
+    ShareLimits,
+    ShareNone,
+    OwnPartAbove,
+    BacklogCut,
+    BacklogRefused,
+    OwnPartRefused,
 }
 
-const EVENTS: [&str; 25] = [
+const EVENTS: [&str; 31] = [
     "frames lost",
     "frames repeated",
     "frames delayed",
@@ -49,7 +57,7 @@ const EVENTS: [&str; 25] = [
     "stall count at 255",
     "8 new messages at once",
     "16 repeats at once",
-    "1,470 bytes of frames",
+    "1,472 bytes of frames",
     "2,752 bytes of deliveries",
     "level up by 2 or more",
     "safe messages delivered",
@@ -62,6 +70,12 @@ const EVENTS: [&str; 25] = [
     "buffers lent as NULL",
     "inputs over 65,535 bytes",
     "records over 65,535 bytes",
+    "fewer new messages by the share than without it",
+    "a share of 0, and 1 new message",
+    "an own part above the token's backlog",
+    "backlog cut at 128",
+    "backlog 129 refused with 12",
+    "own part 17 refused with 2",
 ];
 
 pub struct Coverage {
@@ -70,7 +84,9 @@ pub struct Coverage {
     outcomes: [u64; 8],
     rings: [u64; MOST_MEMBERS + 1],
     events: [u64; EVENTS.len()],
-    damaged: Vec<bool>,
+    damaged: Seen,
+    backlogs: Seen,
+    own_parts: Seen,
 }
 
 impl Coverage {
@@ -80,7 +96,9 @@ impl Coverage {
             outcomes: [0; 8],
             rings: [0; MOST_MEMBERS + 1],
             events: [0; EVENTS.len()],
-            damaged: vec![false; RECORD_LEN],
+            damaged: Seen::none("bytes of the record damaged one by one", RECORD_LEN),
+            backlogs: Seen::none("backlogs of accepted tokens", usize::from(MOST_BACKLOG) + 1),
+            own_parts: Seen::none("own parts where a token was accepted", MOST_POSTS + 1),
         }
     }
 
@@ -88,12 +106,12 @@ impl Coverage {
         self.events[event as usize] += 1;
     }
 
-    fn event_if(&mut self, event: Event, happened: bool) {
+    pub fn event_if(&mut self, event: Event, happened: bool) {
         self.events[event as usize] += u64::from(happened);
     }
 
     pub fn byte_damaged(&mut self, at: usize) {
-        self.damaged[at] = true;
+        self.damaged.note(at);
     }
 
     pub fn note(&mut self, call: &Call, answer: Answer, arena: &Arena) {
@@ -137,6 +155,16 @@ impl Coverage {
         self.event_if(Event::HighNumbers, highest >= MOST_NUMBER - HELD_PLACES);
         self.event_if(Event::LastNumbered, new > 0 && highest == MOST_NUMBER);
         self.event_if(Event::LastToken, frames::number(&call.input) == MOST_NUMBER - 1);
+        self.flow(&Flow::of(arena.before(Part::Record), &call.input, record));
+    }
+
+    fn flow(&mut self, flow: &Flow) {
+        self.backlogs.note(flow.backlog.into());
+        self.own_parts.note(flow.own_part.into());
+        self.event_if(Event::ShareLimits, flow.is_limited_by_share());
+        self.event_if(Event::ShareNone, flow.has_no_share());
+        self.event_if(Event::OwnPartAbove, u16::from(flow.own_part) > flow.backlog);
+        self.event_if(Event::BacklogCut, flow.is_backlog_cut());
     }
 
     fn delivered(&mut self, answer: Answer, arena: &Arena) {
@@ -156,9 +184,13 @@ impl Coverage {
         for (count, more) in counts.chain(&mut self.events).zip(others.chain(&other.events)) {
             *count += more;
         }
-        for (damaged, too) in self.damaged.iter_mut().zip(&other.damaged) {
-            *damaged |= too;
-        }
+        self.damaged.add(&other.damaged);
+        self.backlogs.add(&other.backlogs);
+        self.own_parts.add(&other.own_parts);
+    }
+
+    fn ranges(&self) -> [&Seen; 3] {
+        [&self.damaged, &self.backlogs, &self.own_parts]
     }
 
     /// Each item that has to come up, with its count.
@@ -189,17 +221,14 @@ impl Coverage {
             let cells: Vec<String> = row.iter().map(|(name, count)| format!("{name}: {count}")).collect();
             println!("  {}", cells.join(" | "));
         }
-        let damaged = self.damaged.iter().filter(|damaged| **damaged).count();
-        println!("  bytes of the record damaged one by one: {damaged} of {RECORD_LEN}");
+        println!("  {}", self.ranges().map(Seen::line).join(" | "));
     }
 
     /// What never came up.
     pub fn missing(&self) -> Vec<String> {
         let items = self.items().into_iter().filter(|item| item.1 == 0);
         let mut missing: Vec<String> = items.map(|item| item.0).collect();
-        if let Some(at) = self.damaged.iter().position(|damaged| !damaged) {
-            missing.push(format!("byte {at} of the record damaged by itself"));
-        }
+        missing.extend(self.ranges().into_iter().filter_map(Seen::missing));
         missing
     }
 }

@@ -3,9 +3,10 @@
 use crate::call::Ask;
 use crate::chance::Chance;
 use crate::choices;
+use crate::coverage::Event;
 use crate::fitting;
 use crate::frames::*;
-use crate::layout::{get2, get4, put2, put4};
+use crate::layout::{get2, get4, put2, put4, MOST_BACKLOG};
 use crate::tester::{Outcome, Station, Tester};
 use crate::whole;
 
@@ -19,6 +20,17 @@ pub fn run(tester: &mut Tester) -> Outcome<()> {
         }
         tester.ask(&mut Station::built(record.clone()), Ask::Arrive, frame)?;
     }
+    backlog_alone(tester, record)
+}
+
+/// A token that follows the layout but for its backlog.
+fn backlog_alone(tester: &mut Tester, record: Vec<u8>) -> Outcome<()> {
+    let mut frame = fitting::token(&mut tester.chance, &record);
+    let backlog = tester.chance.pick(&[MOST_BACKLOG + 1, 256, u16::MAX]);
+    put2(&mut frame, BACKLOG, backlog);
+    let answer = tester.ask(&mut Station::built(record), Ask::Arrive, frame)?;
+    let refused = backlog == MOST_BACKLOG + 1 && answer.refusal == 12;
+    tester.coverage.event_if(Event::BacklogRefused, refused);
     Ok(())
 }
 
@@ -39,7 +51,7 @@ pub fn damage(chance: &mut Chance, frame: &mut Vec<u8>) {
 
 /// One of the fields of either kind gets a border value.
 fn field(chance: &mut Chance, frame: &mut [u8]) {
-    let two = [KIND, REPRESENTATIVE, WHO, SERVICE, BLOCKER, ROUND, REQUEST_COUNT];
+    let two = [KIND, REPRESENTATIVE, WHO, SERVICE, BLOCKER, ROUND, BACKLOG, REQUEST_COUNT];
     let four = [RING, NUMBER, CONFIGURATION, HIGHEST, ARU];
     let value = choices::word_at_border(chance);
     if chance.one_in(2) {
@@ -94,7 +106,7 @@ fn resize(chance: &mut Chance, frame: &mut Vec<u8>) {
     let size = match chance.below(4) {
         0 => frame.len().saturating_sub(chance.from(1, 4) as usize),
         1 => frame.len() + chance.from(1, 4) as usize,
-        2 => chance.pick(&[0, 1, 2, 9, 10, 11, 21, 22, 29, 30, 86, 87, 94, 95, 98]),
+        2 => chance.pick(&[0, 1, 2, 9, 10, 11, 21, 22, 31, 32, 86, 87, 96, 97, 100]),
         _ => chance.place(101),
     };
     let old = frame.len().min(size);

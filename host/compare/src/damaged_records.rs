@@ -4,6 +4,7 @@
 use crate::call::{Ask, Call};
 use crate::chance::Chance;
 use crate::choices;
+use crate::coverage::Event;
 use crate::damaged_frames;
 use crate::fitting;
 use crate::layout::*;
@@ -27,21 +28,36 @@ pub fn run(tester: &mut Tester, turn: &mut usize) -> Outcome<()> {
         }
         every_call(tester, &whole, record, RECORD_LEN)?;
     }
+    own_part_alone(tester, &whole)?;
     let len = choices::other_record_len(&mut tester.chance);
-    every_call(tester, &whole, whole.clone(), len)
+    every_call(tester, &whole, whole.clone(), len)?;
+    Ok(())
 }
 
-/// A post, an arrival that fits the whole record, and a resending.
-fn every_call(tester: &mut Tester, whole: &[u8], record: Vec<u8>, len: usize) -> Outcome<()> {
+/// A record that is whole but for the own part of the backlog.
+fn own_part_alone(tester: &mut Tester, whole: &[u8]) -> Outcome<()> {
+    let least = MOST_POSTS as u8 + 1;
+    let own_part = tester.chance.pick(&[least, 32, 255]);
+    let mut record = whole.to_vec();
+    record[OWN_PART] = own_part;
+    let not_whole = every_call(tester, whole, record, RECORD_LEN)?;
+    tester.coverage.event_if(Event::OwnPartRefused, own_part == least && not_whole == 3);
+    Ok(())
+}
+
+/// A post, an arrival that fits the whole record, and a resending; how many of them are refused with 2.
+fn every_call(tester: &mut Tester, whole: &[u8], record: Vec<u8>, len: usize) -> Outcome<u32> {
+    let mut not_whole = 0;
     let mut station = Station::built(record);
     let frame = fitting::frame(&mut tester.chance, whole);
     let asked = [(Ask::Resend, Vec::new()), choices::post(&mut tester.chance), (Ask::Arrive, frame)];
     for (ask, input) in asked {
         let mut call = Call::new(ask, input, tester.noise());
         call.record_len = len;
-        tester.call(&mut station, call)?;
+        let answer = tester.call(&mut station, call)?;
+        not_whole += u32::from(answer.refusal == 2);
     }
-    Ok(())
+    Ok(not_whole)
 }
 
 fn other_byte(chance: &mut Chance, byte: u8) -> u8 {
@@ -72,7 +88,7 @@ fn damage(chance: &mut Chance, whole: &[u8], record: &mut [u8]) {
 /// A field of its own gets a border value.
 fn border(chance: &mut Chance, record: &mut [u8]) {
     let value = choices::word_at_border(chance);
-    let byte = chance.pick(&[MEMBER_COUNT, BROADCAST, STALL, TOKEN_SIZE, POST_COUNT]);
+    let byte = chance.pick(&[MEMBER_COUNT, BROADCAST, STALL, OWN_PART, TOKEN_SIZE, POST_COUNT]);
     let place = chance.place(HELD_PLACES as usize);
     match chance.below(5) {
         0 => record[byte] = value as u8,

@@ -48,6 +48,7 @@ pub fn token(chance: &mut Chance, record: &[u8]) -> Vec<u8> {
         aru,
         blocker,
         round: round(chance, record),
+        backlog: backlog(chance, record),
         requests: requests(chance, record, highest),
     })
 }
@@ -105,6 +106,19 @@ fn round(chance: &mut Chance, record: &[u8]) -> u16 {
         _ => MOST_ROUND - chance.below(20) as u16,
     };
     round.min(MOST_ROUND)
+}
+
+/// Around the own part, around where the share of this station's posts is 8, and up to the most.
+fn backlog(chance: &mut Chance, record: &[u8]) -> u16 {
+    let own = u16::from(record[OWN_PART]);
+    let backlog = match chance.below(6) {
+        0 => own.saturating_sub(chance.below(3) as u16),
+        1 => own + chance.below(3) as u16,
+        2 => own + 2 * u16::from(record[POST_COUNT]) + chance.below(4) as u16,
+        3 => MOST_BACKLOG - chance.below(20) as u16,
+        _ => chance.from(0, MOST_BACKLOG.into()) as u16,
+    };
+    backlog.min(MOST_BACKLOG)
 }
 
 /// None, held ones, missing ones, or any from below the safe mark to above what can be held.

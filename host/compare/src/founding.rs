@@ -52,7 +52,7 @@ fn found(tester: &mut Tester) -> Call {
         call.record_len = choices::other_record_len(chance);
     }
     if chance.one_in(4) {
-        call.frames_len = chance.pick(&[0, 1, 29, 31, 100]);
+        call.frames_len = chance.pick(&[0, 1, 31, 33, 100]);
     }
     call
 }

@@ -17,8 +17,9 @@ pub const HIGHEST: usize = 16;
 pub const ARU: usize = 20;
 pub const BLOCKER: usize = 24;
 pub const ROUND: usize = 26;
-pub const REQUEST_COUNT: usize = 28;
-pub const REQUESTS: usize = 30;
+pub const BACKLOG: usize = 28;
+pub const REQUEST_COUNT: usize = 30;
+pub const REQUESTS: usize = 32;
 
 pub const MESSAGE: u16 = 1;
 pub const TOKEN: u16 = 2;
@@ -56,6 +57,7 @@ impl Ring {
         frame.extend(token.aru.to_le_bytes());
         frame.extend(token.blocker.to_le_bytes());
         frame.extend(token.round.to_le_bytes());
+        frame.extend(token.backlog.to_le_bytes());
         frame.extend((token.requests.len() as u16).to_le_bytes());
         for request in &token.requests {
             frame.extend(request.to_le_bytes());
@@ -73,6 +75,7 @@ pub struct Token {
     /// 0 is nobody.
     pub blocker: u16,
     pub round: u16,
+    pub backlog: u16,
     pub requests: Vec<u32>,
 }
 

@@ -92,6 +92,7 @@ fn alike(chance: &mut Chance, members: &[u16], ring: u32) -> (Vec<Station>, Vec<
         aru: mark,
         blocker: 0,
         round: 0,
+        backlog: 0,
         requests: Vec::new(),
     });
     (members.iter().map(station).collect(), token)

@@ -3,17 +3,18 @@
 
 use std::ops::Range;
 
-pub const RECORD_LEN: usize = 3425;
-pub const FRAMES_LEN: usize = 1470;
+pub const RECORD_LEN: usize = 3428;
+pub const FRAMES_LEN: usize = 1472;
 pub const DELIVERIES_LEN: usize = 2752;
-pub const TOKEN_LEN: usize = 30;
-pub const MOST_TOKEN: usize = 94;
+pub const TOKEN_LEN: usize = 32;
+pub const MOST_TOKEN: usize = 96;
 pub const MOST_CONTENT: usize = 64;
 pub const MOST_MEMBERS: usize = 8;
 pub const MOST_POSTS: usize = 16;
 pub const MOST_REQUESTS: usize = 16;
 pub const HELD_PLACES: u32 = 32;
 pub const MOST_ROUND: u16 = 128;
+pub const MOST_BACKLOG: u16 = 128;
 pub const MOST_NUMBER: u32 = 2_000_000_000;
 
 pub const OWN: usize = 0;
@@ -32,14 +33,15 @@ pub const EARLIER_ARU: usize = 2247;
 pub const TOKEN_NUMBER: usize = 2251;
 pub const BROADCAST: usize = 2255;
 pub const STALL: usize = 2256;
-pub const TOKEN_SIZE: usize = 2257;
-pub const TOKEN: usize = 2258;
-pub const POST_COUNT: usize = 2352;
-pub const POST_SERVICES: usize = 2353;
-pub const POST_LENGTHS: usize = 2385;
-pub const POST_CONTENTS: usize = 2401;
+pub const OWN_PART: usize = 2257;
+pub const TOKEN_SIZE: usize = 2258;
+pub const TOKEN: usize = 2259;
+pub const POST_COUNT: usize = 2355;
+pub const POST_SERVICES: usize = 2356;
+pub const POST_LENGTHS: usize = 2388;
+pub const POST_CONTENTS: usize = 2404;
 
-const OFFSETS: [usize; 23] = [
+const OFFSETS: [usize; 24] = [
     OWN,
     RING,
     MEMBER_COUNT,
@@ -56,6 +58,7 @@ const OFFSETS: [usize; 23] = [
     TOKEN_NUMBER,
     BROADCAST,
     STALL,
+    OWN_PART,
     TOKEN_SIZE,
     TOKEN,
     POST_COUNT,

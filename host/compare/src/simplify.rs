@@ -1,7 +1,7 @@
 //! Simpler forms of a case: each has less in one place, so that taking one after another comes to an end.
 
 use crate::call::{Ask, Call};
-use crate::frames::{is_token, put_length, CONTENT, REQUESTS, REQUEST_COUNT, SERVICE};
+use crate::frames::{is_token, put_length, BACKLOG, CONTENT, REQUESTS, REQUEST_COUNT, SERVICE};
 use crate::layout::{get2, put2, spots, HELD_PLACES, MOST_REQUESTS, POST_COUNT};
 use crate::tester::Case;
 use crate::whole;
@@ -70,13 +70,18 @@ fn simpler_inputs(call: &Call) -> Vec<Vec<u8>> {
     }
 }
 
-/// Without one of the requests.
+/// Without one of the requests, or with backlog 0.
 fn simpler_tokens(frame: &[u8]) -> Vec<Vec<u8>> {
     let mut frames = without(frame, REQUESTS, 4);
     for frame in &mut frames {
         let requests = (frame.len() - REQUESTS) / 4;
         put2(frame, REQUEST_COUNT, requests as u16);
         put_length(frame);
+    }
+    if get2(frame, BACKLOG) != 0 {
+        let mut none = frame.to_vec();
+        put2(&mut none, BACKLOG, 0);
+        frames.push(none);
     }
     frames
 }

@@ -158,6 +158,10 @@ fn put_turn(chance: &mut Chance, record: &mut [u8]) {
     };
     put4(record, TOKEN_NUMBER, number);
     record[BROADCAST] = chance.pick(&[0, 0, 1, 8, 10, 15, 16]);
+    record[OWN_PART] = match chance.below(3) {
+        0 => chance.pick(&[0, 1, 15, 16]),
+        _ => chance.place(MOST_POSTS + 1) as u8,
+    };
     record[STALL] = match chance.below(3) {
         0 => 0,
         1 => chance.byte(),
@@ -183,6 +187,7 @@ fn remembered(chance: &mut Chance, record: &[u8], ids: &[u16]) -> Vec<u8> {
         aru,
         blocker,
         round: chance.pick(&[0, 1, 24, 127, MOST_ROUND]),
+        backlog: chance.pick(&[0, 1, 16, 127, MOST_BACKLOG]),
         requests,
     })
 }

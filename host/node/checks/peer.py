@@ -8,6 +8,7 @@ from .nodes import Station, free_ports, member_flags
 from .tally import check, equal
 
 TOKEN, MESSAGE = 2, 1
+BACKLOG_AT = 28  # in a token
 RESEND = 0.02  # seconds
 
 
@@ -16,8 +17,8 @@ def message(number, content=b"late", sender=7):
     return struct.pack("<H", len(body)) + body
 
 
-def token(number, highest=0, aru=0, blocker=0, addressee=3):
-    body = struct.pack("<HIHHIIIHHH", TOKEN, 4, 3, addressee, number, highest, aru, blocker, 0, 0)
+def token(number, highest=0, aru=0, blocker=0, addressee=3, backlog=0):
+    body = struct.pack("<HIHHIIIHHHH", TOKEN, 4, 3, addressee, number, highest, aru, blocker, 0, backlog, 0)
     return struct.pack("<H", len(body)) + body
 
 
@@ -78,6 +79,17 @@ def one_datagram_a_visit():
     second = frames(peer.receive(5))
     equal([f[22:] for f in second[:-1]], [b"reading %d" % i for i in range(8)], "eight messages")
     equal(second[-1][2:16], token(4, addressee=7)[2:16], "and the token behind them")
+    peer.stop()
+
+
+def share_of_a_visit():
+    """Sixteen posts wait here and 80 elsewhere: four go out, and 92 wait in all."""
+    peer = Peer(b"".join(b"0 reading %d\n" % i for i in range(16)))
+    peer.receive(5)
+    peer.send(token(3, backlog=80))
+    second = frames(peer.receive(5))
+    equal([f[22:] for f in second[:-1]], [b"reading %d" % i for i in range(4)], "four messages")
+    equal(struct.unpack_from("<H", second[-1], BACKLOG_AT)[0], 92, "the backlog that goes on")
     peer.stop()
 
 
@@ -187,6 +199,7 @@ def held_token():
 
 def run_all():
     one_datagram_a_visit()
+    share_of_a_visit()
     resent_while_quiet()
     copy_after_long_quiet()
     repeats_are_no_life()

@@ -9,7 +9,7 @@ use crate::record::Lent;
 use crate::visit;
 
 /// The least buffers for frames and for deliveries.
-pub const FRAMES_LEN: usize = 1470;
+pub const FRAMES_LEN: usize = 1472;
 const DELIVERIES_LEN: usize = 2752;
 
 /// Takes in a message or a token. Asks 1, 2, 10 to 14; of a token also 15 to 18.

@@ -50,6 +50,7 @@ fn first_token(ring: &Ring) -> Token {
         aru: 0,
         blocker: None,
         round_count: 0,
+        backlog: 0,
         requests: Requests::default(),
     }
 }

@@ -12,11 +12,12 @@ pub const TOKEN: u16 = 2;
 /// requests, of the longest token.
 const HEADER_LEN: usize = 10;
 pub const MESSAGE_LEN: usize = 22;
-pub const TOKEN_LEN: usize = 30;
+pub const TOKEN_LEN: usize = 32;
 pub const MOST_TOKEN_LEN: usize = TOKEN_LEN + 4 * MOST_REQUESTS;
 
 pub const MOST_REQUESTS: usize = 16;
 pub const MOST_ROUND_COUNT: u16 = 128;
+pub const MOST_BACKLOG: u16 = 128;
 
 /// Services of a message.
 pub const AGREED: u16 = 0;
@@ -53,6 +54,8 @@ pub struct Token {
     pub blocker: Option<u16>,
     /// Messages broadcast in the last round (the paper's fcc).
     pub round_count: u16,
+    /// Posts that waited at all stations when each last forwarded.
+    pub backlog: u16,
     pub requests: Requests,
 }
 
@@ -148,14 +151,16 @@ fn read_token(frame: &[u8]) -> Option<Token> {
         aru: u32_at(fixed, 20),
         blocker: (blocker != 0).then_some(blocker),
         round_count: u16_at(fixed, 26),
-        requests: read_requests(list, u16_at(fixed, 28).into(), highest)?,
+        backlog: u16_at(fixed, 28),
+        requests: read_requests(list, u16_at(fixed, 30).into(), highest)?,
     };
     let follows = token.addressee != 0
         && is_number(token.number.0)
         && highest <= MOST_NUMBER
         && token.aru <= highest
         && token.blocker.is_none() == (token.aru == highest)
-        && token.round_count <= MOST_ROUND_COUNT;
+        && token.round_count <= MOST_ROUND_COUNT
+        && token.backlog <= MOST_BACKLOG;
     follows.then_some(token)
 }
 

@@ -2,7 +2,7 @@
 //! bounds on what stands there.
 
 /// Bytes of a station's record.
-pub const LEN: usize = 3425;
+pub const LEN: usize = 3428;
 
 pub const OWN: usize = 0;
 pub const RING: usize = 2;
@@ -20,12 +20,13 @@ pub const ARU_BEFORE: usize = 2247;
 pub const TOKEN_NUMBER: usize = 2251;
 pub const LAST_COUNT: usize = 2255;
 pub const STALL: usize = 2256;
-pub const TOKEN_SIZE: usize = 2257;
-pub const TOKEN: usize = 2258;
-pub const POST_COUNT: usize = 2352;
-pub const POST_SERVICES: usize = 2353;
-pub const POST_LENGTHS: usize = 2385;
-pub const POST_CONTENTS: usize = 2401;
+pub const OWN_PART: usize = 2257;
+pub const TOKEN_SIZE: usize = 2258;
+pub const TOKEN: usize = 2259;
+pub const POST_COUNT: usize = 2355;
+pub const POST_SERVICES: usize = 2356;
+pub const POST_LENGTHS: usize = 2388;
+pub const POST_CONTENTS: usize = 2404;
 
 /// Places for held messages: the numbers from the safe mark + 1 to the safe mark + 32.
 pub const WINDOW: usize = 32;

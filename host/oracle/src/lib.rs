@@ -8,6 +8,7 @@ mod answer;
 mod arrival;
 mod bytes;
 mod delivery;
+mod flow;
 mod founding;
 mod frame;
 mod held;

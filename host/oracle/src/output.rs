@@ -42,7 +42,8 @@ impl<'a> Output<'a> {
         put_u32(frame, 20, token.aru);
         put_u16(frame, 24, token.blocker.unwrap_or(0));
         put_u16(frame, 26, token.round_count);
-        put_u16(frame, 28, requests.len() as u16);
+        put_u16(frame, 28, token.backlog);
+        put_u16(frame, 30, requests.len() as u16);
         for (place, number) in requests.iter().enumerate() {
             put_u32(frame, TOKEN_LEN + 4 * place, *number);
         }

@@ -68,6 +68,11 @@ impl<B: Deref<Target = [u8; LEN]>> Record<B> {
         self.bytes[STALL]
     }
 
+    /// The own part of the backlog: how many posts waited here when the token was last forwarded.
+    pub fn own_part(&self) -> u8 {
+        self.bytes[OWN_PART]
+    }
+
     /// The token that may be resent.
     pub fn remembered(&self) -> Option<&[u8]> {
         match self.bytes[TOKEN_SIZE] {
@@ -106,6 +111,10 @@ impl<B: DerefMut<Target = [u8; LEN]>> Record<B> {
 
     pub fn set_last_count(&mut self, count: u8) {
         self.bytes[LAST_COUNT] = count;
+    }
+
+    pub fn set_own_part(&mut self, count: u8) {
+        self.bytes[OWN_PART] = count;
     }
 
     /// The aru of the token that is forwarded now.

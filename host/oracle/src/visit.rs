@@ -1,41 +1,30 @@
-//! The specification's 'A token is accepted', a function for each of its steps 1 to 9.
+//! The specification's 'A token is accepted', a function for each of its steps 2 to 9; step 1 is in `flow`.
 
 use crate::answer::{Answer, Outcome};
 use crate::delivery::deliver;
-use crate::frame::{Token, TokenNumber, MOST_ROUND_COUNT};
+use crate::flow::Others;
+use crate::frame::{Token, TokenNumber};
 use crate::layout::{MOST_NUMBER, WINDOW};
 use crate::output::Output;
 use crate::record::Lent;
 
-/// The most new messages of one visit, and of all stations in a round.
-const MOST_NEW: usize = 8;
-const MOST_IN_ROUND: usize = 24;
 /// A stall count above this is worth the notice 'deaf'.
 const DEAF_ABOVE: u8 = 10;
 
 /// Takes the station's turn with a token that has passed the door, and forwards it.
 pub fn accept(record: &mut Lent, mut token: Token, mut cable: Output, mut delivered: Output) -> Answer {
-    let others = step_1_others_count(record, &token);
+    let others = Others::of(record, &token);
+    let allowance = others.allowance(record.posts());
     let repeats = step_2_repeat(record, &mut token, &mut cable);
-    let room = allowance(others).saturating_sub(repeats);
+    let room = allowance.saturating_sub(repeats);
     let new = step_3_broadcast(record, &mut token, room, &mut cable);
     step_4_aru(record, &mut token);
     let deaf = step_5_stall(record, &token);
     let safe = step_6_safe_mark(record, &token);
     step_7_request(record, &mut token, safe);
-    step_8_forward(record, &mut token, others, repeats + new, &mut cable);
+    step_8_forward(record, &mut token, &others, repeats + new, &mut cable);
     step_9_deliver(record, safe, &mut delivered);
     Answer { frames: cable.count(), deliveries: delivered.count(), deaf, ..Answer::of(Outcome::Accepted) }
-}
-
-/// What the others broadcast in the last round.
-fn step_1_others_count(record: &Lent, token: &Token) -> usize {
-    usize::from(token.round_count).saturating_sub(record.last_count().into())
-}
-
-/// Still step 1: how many messages may be broadcast now.
-fn allowance(others: usize) -> usize {
-    MOST_IN_ROUND.saturating_sub(others).min(MOST_NEW)
 }
 
 /// Broadcasts what is asked for and held; gives the number of repeats.
@@ -109,14 +98,17 @@ fn step_7_request(record: &Lent, token: &mut Token, safe: u32) {
 fn step_8_forward(
     record: &mut Lent,
     token: &mut Token,
-    others: usize,
+    others: &Others,
     broadcasts: usize,
     cable: &mut Output,
 ) {
-    token.round_count = (others + broadcasts).min(MOST_ROUND_COUNT.into()) as u16;
+    let waiting = record.posts();
+    token.round_count = others.round_count(broadcasts);
+    token.backlog = others.backlog(waiting);
     token.number = TokenNumber(token.number.0 + 1);
     token.addressee = record.ring().next();
     record.set_last_count(broadcasts as u8);
+    record.set_own_part(waiting as u8);
     record.push_aru(token.aru);
     record.remember(token.number, cable.token(token));
 }

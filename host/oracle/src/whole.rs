@@ -53,6 +53,7 @@ fn are_marks(bytes: &[u8; LEN], held: &Held) -> bool {
         && u32_at(bytes, ARU_BEFORE) <= level
         && u32_at(bytes, TOKEN_NUMBER) <= MOST_NUMBER
         && bytes[LAST_COUNT] <= MOST_BROADCAST
+        && usize::from(bytes[OWN_PART]) <= MOST_POSTS
 }
 
 /// The token that may be resent is a token of this ring; the bytes past it, or all without leave, are

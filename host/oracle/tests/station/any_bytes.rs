@@ -46,6 +46,7 @@ fn frame(chance: &mut Chance, near: u32) -> Vec<u8> {
         aru: one.min(two),
         blocker: if one <= two { 0 } else { [3, 7, 9][chance.below(3)] },
         round_count: chance.below(129) as u16,
+        backlog: chance.below(129) as u16,
         requests,
         ..Token::with_highest(one)
     }

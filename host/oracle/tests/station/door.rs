@@ -17,25 +17,25 @@ fn founding(station_len: usize, members: &[u8], own: u16, ring: u32, token_len: 
 }
 
 fn founding_with(ids: &[u16], own: u16, ring: u32) -> u16 {
-    founding(LEN, &list(ids), own, ring, 30)
+    founding(LEN, &list(ids), own, ring, 32)
 }
 
 #[test]
 fn founding_asks_for_room() {
-    assert_eq!(founding(LEN - 1, &list(&[3, 7]), 3, 4, 30), 1);
-    assert_eq!(founding(LEN, &list(&[3, 7]), 3, 4, 29), 1);
+    assert_eq!(founding(LEN - 1, &list(&[3, 7]), 3, 4, 32), 1);
+    assert_eq!(founding(LEN, &list(&[3, 7]), 3, 4, 31), 1);
     assert_eq!(founding(0, &[], 0, 0, 0), 1);
-    assert_eq!(founding(LEN, &list(&[3, 7]), 3, 4, 30), 0);
+    assert_eq!(founding(LEN, &list(&[3, 7]), 3, 4, 32), 0);
 }
 
 #[test]
 fn founding_leaves_bytes_past_the_record() {
     let mut station = vec![0xA5; LEN + 9];
-    let mut token = vec![0xA5; 33];
+    let mut token = vec![0xA5; 35];
     let answer = found(&mut station, &list(&[3, 7]), 3, 4, &mut token);
     assert_eq!(answer.outcome, FOUNDED);
     assert_eq!(station[..LEN], Station::new(&[3, 7], 3, 4).0.bytes);
-    assert!(station[LEN..].iter().chain(&token[30..]).all(|byte| *byte == 0xA5));
+    assert!(station[LEN..].iter().chain(&token[32..]).all(|byte| *byte == 0xA5));
 }
 
 #[test]
@@ -43,7 +43,7 @@ fn founding_asks_3_to_6() {
     assert_eq!(founding_with(&[3], 3, 4), 3);
     assert_eq!(founding_with(&[], 3, 4), 3);
     assert_eq!(founding_with(&[1, 2, 3, 4, 5, 6, 7, 8, 9], 3, 4), 3);
-    assert_eq!(founding(LEN, &[3, 0, 7, 0, 9], 3, 4, 30), 3);
+    assert_eq!(founding(LEN, &[3, 0, 7, 0, 9], 3, 4, 32), 3);
     assert_eq!(founding_with(&[7, 3], 3, 4), 4);
     assert_eq!(founding_with(&[0, 3], 3, 4), 4);
     assert_eq!(founding_with(&[3, 0], 3, 4), 4);
@@ -89,7 +89,7 @@ fn a_post_stands_behind_the_others() {
 #[test]
 fn arrival_asks_for_room_then_for_a_whole_record() {
     let frame = message(1, 3, 0, b"");
-    for (frames_len, deliveries_len, refusal) in [(1469, 2752, 1), (1470, 2751, 1), (1470, 2752, 2)] {
+    for (frames_len, deliveries_len, refusal) in [(1471, 2752, 1), (1472, 2751, 1), (1472, 2752, 2)] {
         let mut station = vec![0; LEN];
         let mut frames = vec![0; frames_len];
         let mut deliveries = vec![0; deliveries_len];
@@ -129,11 +129,11 @@ fn question_18_where_nothing_is_held() {
 #[test]
 fn resending_asks_1_2_19() {
     let mut station = Station::fresh();
-    assert_eq!(resend(&[], &mut [0; 1469]).refusal, 1);
-    assert_eq!(resend(&station.bytes[1..], &mut [0; 1470]).refusal, 2);
+    assert_eq!(resend(&[], &mut [0; 1471]).refusal, 1);
+    assert_eq!(resend(&station.bytes[1..], &mut [0; 1472]).refusal, 2);
     assert_eq!(station.resend().answer.refusal, 19);
     let token = station.arrive(&Token::with_highest(0).frame()).token().to_vec();
     let reply = station.resend();
-    assert_eq!((reply.answer.outcome, reply.answer.frames), (RESENT, 30));
+    assert_eq!((reply.answer.outcome, reply.answer.frames), (RESENT, 32));
     assert_eq!(reply.frames, [token]);
 }

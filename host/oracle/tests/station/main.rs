@@ -1,6 +1,7 @@
 //! Tests of the oracle's four calls, against the specification's words.
 
 mod any_bytes;
+mod backlog;
 mod door;
 mod messages;
 mod reader;

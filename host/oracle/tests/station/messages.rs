@@ -39,7 +39,7 @@ fn had_and_ahead_end_the_leave_and_deliver() {
         let mut station = Station::with_level(3);
         station.arrive(&Token::with_highest(3).frame());
         station.set_u32(DELIVERED, 0);
-        assert_eq!(station.bytes[TOKEN_SIZE], 30);
+        assert_eq!(station.bytes[TOKEN_SIZE], 32);
         let reply = station.arrive(&message(number, 9, 0, b""));
         assert_eq!((reply.answer.outcome, reply.deliveries.len()), (outcome, 3));
         assert!(station.bytes[TOKEN_SIZE..POST_COUNT].iter().all(|byte| *byte == 0));

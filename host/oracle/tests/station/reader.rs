@@ -67,6 +67,9 @@ fn a_token_is_asked_12() {
     assert_eq!(refused(Token { blocker: 0, ..token.clone() }), 12);
     assert_eq!(refused(Token { round_count: 129, ..token.clone() }), 12);
     assert_eq!(refused(Token { round_count: 128, ..token.clone() }), 0);
+    for (backlog, refusal) in [(0, 0), (128, 0), (129, 12), (256, 12), (65_535, 12)] {
+        assert_eq!(refused(Token { backlog, ..token.clone() }), refusal);
+    }
     for requests in [vec![6], vec![0], vec![3, 1, 3]] {
         assert_eq!(refused(Token { requests, ..token.clone() }), 12);
     }
@@ -76,10 +79,10 @@ fn a_token_is_asked_12() {
 fn a_token_has_as_many_requests_as_it_says() {
     let frame = Token { requests: vec![1, 2], ..Token::with_highest(5) }.frame();
     for count in [0, 1, 3, 17] {
-        assert_eq!(refused(&altered(&frame, 28, &[count])), 12);
+        assert_eq!(refused(&altered(&frame, 30, &[count])), 12);
     }
-    assert_eq!(refused(&altered(&frame[..37], 0, &[35])), 12);
-    assert_eq!(refused(&altered(&frame[..29], 0, &[27])), 12);
+    assert_eq!(refused(&altered(&frame[..39], 0, &[37])), 12);
+    assert_eq!(refused(&altered(&frame[..31], 0, &[29])), 12);
     assert_eq!(refused(&altered(&frame[..10], 0, &[8])), 12);
 }
 

@@ -46,9 +46,9 @@ impl Station {
         let mut bytes = vec![FILL; LEN];
         let mut token = vec![FILL; 40];
         let answer = found(&mut bytes, &list(ids), own, ring, &mut token);
-        assert_eq!((answer.refusal, answer.outcome, answer.frames), (0, FOUNDED, 30));
-        assert!(token[30..].iter().all(|byte| *byte == FILL));
-        token.truncate(30);
+        assert_eq!((answer.refusal, answer.outcome, answer.frames), (0, FOUNDED, 32));
+        assert!(token[32..].iter().all(|byte| *byte == FILL));
+        token.truncate(32);
         (Station { bytes }, token)
     }
 
@@ -107,7 +107,7 @@ impl Station {
 
     pub fn arrive(&mut self, frame: &[u8]) -> Reply {
         let before = self.bytes.clone();
-        let mut frames = vec![FILL; 1470];
+        let mut frames = vec![FILL; 1472];
         let mut deliveries = vec![FILL; 2752];
         let answer = arrive(&mut self.bytes, frame, &mut frames, &mut deliveries);
         self.check_refused(&answer, &before);
@@ -119,7 +119,7 @@ impl Station {
     }
 
     pub fn resend(&self) -> Reply {
-        let mut frames = vec![FILL; 1470];
+        let mut frames = vec![FILL; 1472];
         let answer = resend(&self.bytes, &mut frames);
         self.check_refused(&answer, &self.bytes);
         Reply { answer, frames: split(frames, answer.frames), deliveries: Vec::new() }
@@ -189,6 +189,7 @@ pub struct Token {
     pub aru: u32,
     pub blocker: u16,
     pub round_count: u16,
+    pub backlog: u16,
     pub requests: Vec<u32>,
 }
 
@@ -202,6 +203,7 @@ impl Token {
             aru: highest,
             blocker: 0,
             round_count: 0,
+            backlog: 0,
             requests: Vec::new(),
         }
     }
@@ -211,7 +213,7 @@ impl Token {
         for number in [self.number, self.highest, self.aru] {
             rest.extend(number.to_le_bytes());
         }
-        for word in [self.blocker, self.round_count, self.requests.len() as u16] {
+        for word in [self.blocker, self.round_count, self.backlog, self.requests.len() as u16] {
             rest.extend(word.to_le_bytes());
         }
         rest.extend(self.requests.iter().flat_map(|number| number.to_le_bytes()));
@@ -229,7 +231,8 @@ impl Token {
             aru: number(20),
             blocker: word(24),
             round_count: word(26),
-            requests: (30..frame.len()).step_by(4).map(number).collect(),
+            backlog: word(28),
+            requests: (32..frame.len()).step_by(4).map(number).collect(),
         };
         assert_eq!(token.frame(), frame);
         token

@@ -6,8 +6,8 @@ use oracle::layout::*;
 #[test]
 fn the_first_token() {
     let (_, token) = Station::new(&[3, 7], 7, 4);
-    let mut expected = vec![0x1C, 0, 2, 0, 4, 0, 0, 0, 3, 0, 3, 0, 1, 0, 0, 0];
-    expected.extend([0; 14]);
+    let mut expected = vec![0x1E, 0, 2, 0, 4, 0, 0, 0, 3, 0, 3, 0, 1, 0, 0, 0];
+    expected.extend([0; 16]);
     assert_eq!(token, expected);
 }
 
@@ -15,7 +15,7 @@ fn the_first_token() {
 fn the_fresh_record() {
     let (station, _) = Station::new(&[3, 9, 0x0107], 9, 0x0A0B_0C0D);
     let mut expected = vec![9, 0, 0x0D, 0x0C, 0x0B, 0x0A, 3, 3, 0, 9, 0, 7, 1];
-    expected.resize(3425, 0);
+    expected.resize(3428, 0);
     assert_same(&station.bytes, &expected);
 }
 
@@ -88,11 +88,11 @@ fn content_sizes() {
 }
 
 #[test]
-fn sixteen_requests_94_bytes_seventeen_12() {
+fn sixteen_requests_96_bytes_seventeen_12() {
     let mut station = Station::fresh();
     let asked = Token { aru: 0, blocker: 7, ..Token::with_highest(20) };
     let token = station.arrive(&asked.frame()).token().to_vec();
-    assert_eq!(token.len(), 94);
+    assert_eq!(token.len(), 96);
     assert_eq!(Token::of(&token).requests, (1..=16).collect::<Vec<_>>());
     let longer = Token { requests: (1..=17).collect(), ..asked };
     assert_eq!(Station::fresh().arrive(&longer.frame()).answer.refusal, 12);

@@ -43,7 +43,7 @@ fn sixteen_repeats_fill_the_frames_buffer() {
     station.set_u32(LEVEL, 32);
     let token = Token { aru: 0, blocker: 9, requests: (17..=32).collect(), ..Token::with_highest(90) };
     let reply = station.arrive(&token.frame());
-    assert_eq!(reply.answer.frames, 16 * 86 + 30);
+    assert_eq!(reply.answer.frames, 16 * 86 + 32);
     assert_eq!((station.bytes[LAST_COUNT], Token::of(reply.token()).round_count), (16, 16));
 }
 
@@ -54,7 +54,7 @@ fn sixteen_repeats_and_sixteen_requests() {
         station.hold(number, 3, 1, &[7; 64]);
     }
     let token = Token { aru: 0, blocker: 9, requests: (17..=32).collect(), ..Token::with_highest(90) };
-    assert_eq!(station.arrive(&token.frame()).answer.frames, 1470);
+    assert_eq!(station.arrive(&token.frame()).answer.frames, 1472);
 }
 
 /// The number of new messages with this many posts at a token.
@@ -110,9 +110,10 @@ fn the_record_after_new_messages_is_exact() {
     expected.set_u32(ARU, 8);
     expected.set_u32(TOKEN_NUMBER, 2);
     expected.bytes[LAST_COUNT] = 8;
-    let token = Token { addressee: 9, number: 2, round_count: 8, ..Token::with_highest(8) }.frame();
-    expected.bytes[TOKEN_SIZE] = 30;
-    expected.bytes[TOKEN..][..30].copy_from_slice(&token);
+    expected.bytes[OWN_PART] = 2;
+    let token = Token { addressee: 9, number: 2, round_count: 8, backlog: 2, ..Token::with_highest(8) };
+    expected.bytes[TOKEN_SIZE] = 32;
+    expected.bytes[TOKEN..][..32].copy_from_slice(&token.frame());
     assert_same(&station.bytes, &expected.bytes);
     assert_eq!(reply.deliveries, [message(1, 7, 0, b"")]);
 }
@@ -122,10 +123,10 @@ fn a_shorter_token_leaves_no_bytes_of_the_longer() {
     let mut station = Station::with_marks(40);
     let longer = Token { requests: (1..=16).collect(), ..Token::with_highest(40) };
     station.arrive(&longer.frame());
-    assert_eq!(station.bytes[TOKEN_SIZE], 94);
+    assert_eq!(station.bytes[TOKEN_SIZE], 96);
     station.arrive(&Token { number: 4, ..Token::with_highest(40) }.frame());
-    assert_eq!(station.bytes[TOKEN_SIZE], 30);
-    assert!(station.bytes[TOKEN + 30..POST_COUNT].iter().all(|byte| *byte == 0));
+    assert_eq!(station.bytes[TOKEN_SIZE], 32);
+    assert!(station.bytes[TOKEN + 32..POST_COUNT].iter().all(|byte| *byte == 0));
 }
 
 #[test]

@@ -27,7 +27,7 @@ fn resendable() -> Token {
 }
 
 fn remember(station: &mut Station, frame: &[u8]) {
-    station.bytes[TOKEN_SIZE..][..95].fill(0);
+    station.bytes[TOKEN_SIZE..][..97].fill(0);
     station.bytes[TOKEN_SIZE] = frame.len() as u8;
     station.bytes[TOKEN..][..frame.len()].copy_from_slice(frame);
 }
@@ -66,7 +66,7 @@ fn a_fresh_record_with_one_byte_altered() {
             let number = station.u32(TOKEN_NUMBER);
             let expected = match at {
                 TOKEN_NUMBER..LAST_COUNT => number <= 2_000_000_000,
-                LAST_COUNT | POST_COUNT => value <= 16,
+                LAST_COUNT | OWN_PART | POST_COUNT => value <= 16,
                 STALL => true,
                 _ => false,
             };
@@ -194,14 +194,16 @@ fn the_token_that_may_be_resent() {
     assert!(!with(Token { addressee: 8, ..resendable() }));
     assert!(!with(Token { blocker: 8, ..resendable() }));
     assert!(!with(Token { round_count: 129, ..resendable() }));
+    assert!(with(Token { backlog: 128, ..resendable() }));
+    assert!(!with(Token { backlog: 129, ..resendable() }));
     assert!(!with(Token { requests: vec![2, 2], ..resendable() }));
     assert!(!whole(|station| remember(station, &message(1, 3, 0, &[1; 20]))), "kind 2");
     assert!(!whole(|station| station.bytes[TOKEN + 2] = 1));
     assert!(!whole(|station| station.bytes[TOKEN + 4] = 5));
     assert!(!whole(|station| station.bytes[TOKEN + 8] = 7));
-    for size in (0..=255).filter(|size| *size != 38) {
+    for size in (0..=255).filter(|size| *size != 40) {
         assert!(!whole(|station| station.bytes[TOKEN_SIZE] = size), "size {size}");
     }
-    assert!(!whole(|station| station.bytes[TOKEN + 38] = 1));
-    assert!(!whole(|station| station.bytes[TOKEN + 93] = 1));
+    assert!(!whole(|station| station.bytes[TOKEN + 40] = 1));
+    assert!(!whole(|station| station.bytes[TOKEN + 95] = 1));
 }
