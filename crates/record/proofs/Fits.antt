@@ -3,10 +3,10 @@ use Prim.Native.Nat.{ℕ, _^_, _<_, _≤_}
 use mathlib.Core.Path.{_≡_}
 use mathlib.Core.Bool.{true, false, and-false}
 use mathlib.Core.List.{List}
-use borrow.Author.Tests.{leb-true}
+use borrow.Author.Tests.{leb-true, eqb-true}
 use native.Mathlib.Omega.{arith}
 use lib.ListN.{length, getD, drop, take-append-drop}
-use lib.Dec.{leb}
+use lib.Dec.{leb, eqb}
 use Rattle.words.specs.Scan.{allWithin, allZero}
 use Rattle.words.proofs.ScanLaws.{within-most}
 use Rattle.frames.specs.Number.{mostNumber, mostId}
@@ -15,7 +15,9 @@ use Rattle.frames.proofs.Facts.{part}
 use Rattle.record.specs.Size.{mostMembers}
 use Rattle.record.specs.Members.{idsFollow, foundable}
 use Rattle.record.specs.Ring.{ids}
-use Rattle.record.specs.Whole.{logInRange, turnInRange, postsInRange, logUnusedZero, logWhole, turnWhole, postsWhole, whole}
+use Rattle.record.specs.Whole.{logInRange, turnInRange, postsInRange, logUnusedZero, logWhole, turnWhole, postsWhole, panelRight, partsWhole, whole}
+use Rattle.record.specs.Panel.{undelivered}
+use Rattle.record.proofs.TallyLaws.{undelivered-most}
 use Rattle.record.specs.declared.log.Held.{Held}
 use Rattle.record.specs.declared.log.Log.{Log}
 use Rattle.record.specs.declared.turn.Turn.{Turn}
@@ -61,6 +63,7 @@ pub record PostsFits (p : Posts) : Type 0 where
 
 pub record RecordFits (r : Record) : Type 0 where
   pub own : r .own < 256 ^ 2
+  pub panel : r .panel < 256 ^ 1
   pub log : LogFits (r .log)
   pub turn : TurnFits (r .turn)
   pub posts : PostsFits (r .posts)
@@ -118,18 +121,20 @@ members-most l first rest =
     rw take-append-drop at (most-append mostId (ids l) (drop (l .count) (l .members)) most zeros)
 
 pub whole-fits : (r : Record) → whole r ≡ true → RecordFits r
-unfolding whole logWhole turnWhole postsWhole foundable idsFollow logUnusedZero
+unfolding whole panelRight partsWhole logWhole turnWhole postsWhole foundable idsFollow logUnusedZero
 whole-fits r e =
     let l = r .log in
-    let own : r .own ≤ mostId = leb-true (r .own) mostId (part e (λ (f : leb (r .own) mostId ≡ false). rw f)) in
+    let own : r .own ≤ mostId = leb-true (r .own) mostId (part e (λ (f : leb (r .own) mostId ≡ false). simp (f, and-false))) in
     let log = log-range l (part e (λ (f : logInRange l ≡ false). simp (f, and-false))) in
     let turn = turn-range (r .turn) (part e (λ (f : turnInRange (r .turn) ≡ false). simp (f, and-false))) in
     let posts = posts-range (r .posts) (part e (λ (f : postsInRange (r .posts) ≡ false). simp (f, and-false))) in
     let ring : l .ring .0 ≤ mostNumber = leb-true (l .ring .0) mostNumber (part e (λ (f : leb (l .ring .0) mostNumber ≡ false). simp (f, and-false))) in
     let first : allWithin 1 mostId (ids l) ≡ true = part e (λ (f : allWithin 1 mostId (ids l) ≡ false). simp (f, and-false)) in
     let rest : allZero (drop (l .count) (l .members)) ≡ true = part e (λ (f : allZero (drop (l .count) (l .members)) ≡ false). simp (f, and-false)) in
+    let panel : r .panel ≡ undelivered l = eqb-true (r .panel) (undelivered l) (part e (λ (f : eqb (r .panel) (undelivered l) ≡ false). rw f)) in
     record {
       own = omega (arith, own);
+      panel = omega (arith, panel, undelivered-most l);
       log = log-fits l log ring (members-most l first rest);
       turn = turn-fits (r .turn) turn;
       posts = posts-fits (r .posts) posts;

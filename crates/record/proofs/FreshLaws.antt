@@ -1,25 +1,27 @@
 -- A fresh record: members placed one by one, and that it is whole.
 use Prim.Native.Nat.{ℕ, suc, _+_, _-_, _<_, _≤_}
 use mathlib.Core.Path.{_≡_, refl, sym, _∙_}
-use mathlib.Core.Bool.{true}
+use mathlib.Core.Bool.{true, false, and-false}
 use mathlib.Core.List.{List}
 use borrow.Author.Tests.{le-leb, eq-eqb}
 use native.Mathlib.Numerals.{add-one}
 use native.Mathlib.Omega.{arith}
-use lib.ListN.{length, getD, set, take, drop, replicate, length-append, length-replicate}
+use lib.ListN.{length, getD, set, take, drop, replicate, length-append, length-replicate, getD-replicate}
 use lib.Seq.{take-suc, set-at, append-snoc, take-all, length-take-le, take-append-seam, drop-append-seam}
 use Rattle.words.specs.Scan.{every, allZero}
-use Rattle.record.specs.Size.{mostMembers}
+use Rattle.record.specs.Size.{mostMembers, mostHeld}
 use Rattle.record.specs.Count.{everyFrom}
-use Rattle.record.specs.Held.{holds}
+use Rattle.record.specs.Held.{placeOf, inWindow, holds}
+use Rattle.record.specs.Panel.{undelivered}
 use Rattle.record.specs.Members.{foundable}
 use Rattle.record.specs.Fresh.{freshHeld, membersPlaced, freshLog, freshTurn, freshPosts, fresh}
 use Rattle.record.specs.Ring.{ids as idsOf}
 use Rattle.record.specs.declared.log.Log.{Log}
-use Rattle.record.specs.Whole.{heldInRange, numbersInRange, logInRange, turnInRange, postsInRange, sendersAreMembers, resendPasses, marksInOrder, arusReached, heldToLevel, nextNotHeld, contentsPadded, freePlacesZero, logUnusedZero, postsUnusedZero, turnUnusedZero, logWhole, turnWhole, postsWhole, whole}
+use Rattle.record.specs.Whole.{heldInRange, numbersInRange, logInRange, turnInRange, postsInRange, sendersAreMembers, resendPasses, marksInOrder, arusReached, heldToLevel, nextNotHeld, contentsPadded, freePlacesZero, logUnusedZero, postsUnusedZero, turnUnusedZero, logWhole, turnWhole, postsWhole, panelRight, partsWhole, whole}
 use Rattle.record.proofs.MemberLaws.{foundable-facts, own-most}
 use Rattle.record.proofs.ListLaws.{most-zeros, all-within}
 use Rattle.record.proofs.RangeLaws.{numbers-below}
+use Rattle.record.proofs.TallyLaws.{undelivered-none}
 
 -- ---- a loop that places the members
 
@@ -96,6 +98,14 @@ module _ (ids : List ℕ) (own ring : ℕ) where
   unfolding turnWhole turnInRange resendPasses arusReached turnUnusedZero freshLog freshTurn every
   turn-whole = refl
 
+  -- nothing is held
+  none-held : (n : ℕ) → holds log n ≡ false
+  unfolding holds freshLog freshHeld
+  none-held n = rw (getD-replicate {A = ℕ} mostHeld (placeOf n) 0 0 (omega arith)) (and-false (inWindow log n))
+
+  pub fresh-shows : undelivered log ≡ 0
+  fresh-shows = undelivered-none log none-held
+
   pub fresh-whole : foundable ids own ring ≡ true → whole (fresh ids own ring) ≡ true
-  unfolding whole fresh
-  fresh-whole e = rw (le-leb _ _ (own-most ids own (foundable-facts ids own ring e)), log-whole e, turn-whole, posts-whole)
+  unfolding whole panelRight partsWhole fresh
+  fresh-whole e = rw (fresh-shows, le-leb _ _ (own-most ids own (foundable-facts ids own ring e)), log-whole e, turn-whole, posts-whole)

@@ -1,6 +1,6 @@
 -- Parts read field by field, each array into zeros of its own length, are the parts that stand in the bytes.
 use Prim.Native.Nat.{ℕ, _+_, _-_}
-use mathlib.Core.Path.{_≡_, _∙_}
+use mathlib.Core.Path.{_≡_, refl, ap, _∙_}
 use mathlib.Core.List.{List, [], _++_, append-nil}
 use lib.ListN.{length, take, drop}
 use lib.Seq.{drop-drop}
@@ -9,13 +9,14 @@ use Rattle.words.specs.Run.{words}
 use Rattle.words.proofs.ScanLaws.{to-end}
 use Rattle.frames.specs.Layout.{longestToken}
 use Rattle.record.specs.Size.{mostMembers, mostHeld, mostPosts, heldContents}
-use Rattle.record.specs.Layout.{ownAt, logAt, turnAt, postsAt, logRingAt, memberCountAt, membersAt, levelAt, safeAt, deliveredAt, heldMessagesAt, sendersAt, heldServicesAt, heldLengthsAt, heldContentsAt, turnAruAt, earlierAt, turnNumberAt, broadcastAt, stallAt, waitedAt, tokenSizeAt, tokenAt, postCountAt, postServicesAt, postLengthsAt, postContentsAt}
+use Rattle.record.specs.Layout.{ownAt, panelAt, logAt, turnAt, postsAt, logRingAt, memberCountAt, membersAt, levelAt, safeAt, deliveredAt, heldMessagesAt, sendersAt, heldServicesAt, heldLengthsAt, heldContentsAt, turnAruAt, earlierAt, turnNumberAt, broadcastAt, stallAt, waitedAt, tokenSizeAt, tokenAt, postCountAt, postServicesAt, postLengthsAt, postContentsAt}
 use Rattle.record.specs.Bytes.{bytesAt, heldOf, logOf, turnOf, postsOf, recordOf}
-use Rattle.record.specs.inner.Head.{logOn, postsOn, recordOn, contentsIn, waitingIn}
+use Rattle.record.specs.inner.Head.{logOn, postsOn, recordShowing, headOf, recordHead, contentsIn, waitingIn}
 use Rattle.record.specs.declared.head.LogHead.{LogHead}
 use Rattle.record.specs.declared.head.PostsHead.{PostsHead}
 use Rattle.record.specs.declared.head.Head.{Head}
 use Rattle.record.specs.declared.turn.Turn.{Turn}
+use Rattle.record.specs.declared.posts.Posts.{Posts}
 
 -- a part to the end, as the code spells it
 abbrev toEnd : List ℕ → ℕ → List ℕ
@@ -67,19 +68,37 @@ pub head-read : (s : List ℕ) (own : ℕ) (log : LogHead) (turn : Turn) (posts 
     → logOn log (contentsIn (toEnd s logAt) 0) ≡ logOf (toEnd s logAt)
     → turn ≡ turnOf (toEnd s turnAt)
     → postsOn posts (waitingIn (toEnd s postsAt) 0) ≡ postsOf (toEnd s postsAt)
-    → recordOn (record { own = own; log = log; turn = turn; posts = posts }) (contentsIn s logAt) (waitingIn s postsAt) ≡ recordOf s
+    → record { own = own; log = log; turn = turn; posts = posts } ≡ recordHead (recordOf s)
 unfolding recordOf
 head-read s own log turn posts e₁ e₂ e₃ e₄ =
-    let log-there : logOn log (contentsIn s logAt) ≡ logOf (drop logAt s) = rw (to-end s logAt, drop-drop (0 + heldMessagesAt + heldContentsAt) logAt s) at e₂ in
-    let posts-there : postsOn posts (waitingIn s postsAt) ≡ postsOf (drop postsAt s) = rw (to-end s postsAt, drop-drop (0 + postContentsAt) postsAt s) at e₄ in
-    rw (e₁, log-there, rw (to-end s turnAt) at e₃, posts-there)
+    let log-is : log ≡ headOf (logOf (drop logAt s)) = ap headOf (rw (to-end s logAt) at e₂) in
+    let posts-is : posts ≡ postsHead (postsOf (drop postsAt s)) = ap postsHead (rw (to-end s postsAt) at e₄) in
+    rw (e₁, log-is, rw (to-end s turnAt) at e₃, posts-is)
+  where
+    postsHead : Posts → PostsHead
+    postsHead p = record { count = p .count; services = p .services; lengths = p .lengths }
 
-pub decoded : (s : List ℕ) (h : Head) (contents waiting : List ℕ)
-    → recordOn h (contentsIn s logAt) (waitingIn s postsAt) ≡ recordOf s
+-- the contents stand in the bytes, so a record of its head and them is the record
+pub contents-there : (s : List ℕ) → contentsIn s logAt ≡ recordOf s .log .held .contents
+unfolding recordOf logOf heldOf
+contents-there s = rw (drop-drop heldContentsAt heldMessagesAt (drop logAt s), drop-drop (heldMessagesAt + heldContentsAt) logAt s)
+
+pub waiting-there : (s : List ℕ) → waitingIn s postsAt ≡ recordOf s .posts .contents
+unfolding recordOf postsOf
+waiting-there s = rw (drop-drop postContentsAt postsAt s)
+
+pub panel-there : (s : List ℕ) → wordAt 1 s panelAt ≡ recordOf s .panel
+unfolding recordOf
+panel-there s = refl
+
+pub decoded : (s : List ℕ) (panel : ℕ) (h : Head) (contents waiting : List ℕ)
+    → panel ≡ wordAt 1 s panelAt
+    → h ≡ recordHead (recordOf s)
     → contents ≡ contentsIn s logAt ++ []
     → waiting ≡ waitingIn s postsAt ++ []
-    → recordOn h contents waiting ≡ recordOf s
-decoded s h contents waiting e e₁ e₂ = rw (e₁, e₂) (rw (append-nil (contentsIn s logAt), append-nil (waitingIn s postsAt)) e)
+    → recordShowing panel h contents waiting ≡ recordOf s
+decoded s panel h contents waiting p e e₁ e₂ =
+    rw (p ∙ panel-there s, e, e₁ ∙ append-nil (contentsIn s logAt) ∙ contents-there s, e₂ ∙ append-nil (waitingIn s postsAt) ∙ waiting-there s)
 
 pub count-read : (s : List ℕ) (n : ℕ) → n ≡ wordAt 1 s (postsAt + postCountAt) → n ≡ recordOf s .posts .count
 unfolding recordOf postsOf wordAt

@@ -13,6 +13,7 @@ pub mod HeldSteps
 pub mod HeldLaws
 pub mod TakeLaws
 pub mod PlaceLaws
+pub mod TallyLaws
 pub mod HeldNumbers
 pub mod PostLaws
 pub mod PaddedLaws

@@ -11,9 +11,9 @@ use Rattle.words.proofs.StoreLaws.{Stored, stored-none, stored-next, front-stor
 use Rattle.words.proofs.WordLaws.{stored-word}
 use Rattle.frames.specs.Layout.{longestToken}
 use Rattle.record.specs.Size.{mostMembers, mostHeld, mostPosts, heldContents, postContents}
-use Rattle.record.specs.Layout.{ownAt, logAt, turnAt, postsAt, recordSize, logRingAt, memberCountAt, membersAt, levelAt, safeAt, deliveredAt, heldMessagesAt, logSize, sendersAt, heldServicesAt, heldLengthsAt, heldContentsAt, turnAruAt, earlierAt, turnNumberAt, broadcastAt, stallAt, waitedAt, tokenSizeAt, tokenAt, turnSize, postCountAt, postServicesAt, postLengthsAt, postContentsAt, postsSize}
+use Rattle.record.specs.Layout.{ownAt, panelAt, logAt, turnAt, postsAt, recordSize, logRingAt, memberCountAt, membersAt, levelAt, safeAt, deliveredAt, heldMessagesAt, logSize, sendersAt, heldServicesAt, heldLengthsAt, heldContentsAt, turnAruAt, earlierAt, turnNumberAt, broadcastAt, stallAt, waitedAt, tokenSizeAt, tokenAt, turnSize, postCountAt, postServicesAt, postLengthsAt, postContentsAt, postsSize}
 use Rattle.record.specs.Bytes.{bytesAt, heldBytes, logBytes, turnBytes, postsBytes, recordBytes}
-use Rattle.record.specs.inner.Head.{logOn, postsOn, recordOn, contentsIn, waitingIn}
+use Rattle.record.specs.inner.Head.{logOn, postsOn, recordShowing, contentsIn, waitingIn}
 use Rattle.record.specs.declared.head.LogHead.{LogHead}
 use Rattle.record.specs.declared.head.PostsHead.{PostsHead}
 use Rattle.record.specs.declared.head.Head.{Head}
@@ -122,14 +122,14 @@ posts-stored p at l l₁ l₂ l₃ services lengths room e₁ e₂ e₃ =
 
 -- ---- a head, with the contents left alone
 
-head-arrays : (h : Head) (l : List ℕ)
+head-arrays : (panel : ℕ) (h : Head) (l : List ℕ)
     → HeadArrays (h .log)
     → length (h .turn .token) ≡ longestToken
     → length (h .posts .services) ≡ mostPosts
     → length (h .posts .lengths) ≡ mostPosts
     → recordSize ≤ length l
-    → RecordArrays (recordOn h (contentsIn l logAt) (waitingIn l postsAt))
-head-arrays h l a token services lengths room =
+    → RecordArrays (recordShowing panel h (contentsIn l logAt) (waitingIn l postsAt))
+head-arrays panel h l a token services lengths room =
     record {
       log = record { members = a .members; held = record { senders = a .senders; services = a .services; lengths = a .lengths; contents = length-take-le heldContents (drop (logAt + heldMessagesAt + heldContentsAt) l) (rw length-drop (omega arith)) } };
       token = token;
@@ -140,39 +140,41 @@ head-arrays h l a token services lengths room =
 part-past : {l : List ℕ} {p : List ℕ} {n : ℕ} {l₁ : List ℕ} (k at : ℕ) → Stored l 0 p n l₁ → n ≤ at → bytesAt k l₁ at ≡ bytesAt k l at
 part-past {l} {p} {n} {l₁} k at first past = ap (take k) (rw (first .is) (part-after at 0 p l (omega (arith, first .size))))
 
-pub head-stored : (h : Head) (l l₁ l₂ l₃ l₄ : List ℕ)
+pub head-stored : (panel : ℕ) (h : Head) (l l₁ l₂ l₃ l₄ l₅ : List ℕ)
     → HeadArrays (h .log)
     → length (h .turn .token) ≡ longestToken
     → length (h .posts .services) ≡ mostPosts
     → length (h .posts .lengths) ≡ mostPosts
     → recordSize ≤ length l
     → l₁ ≡ sets l ownAt (wordBytes 2 (h .own))
-    → l₂ ≡ sets l₁ logAt (logBytes (logOn (h .log) (contentsIn l₁ logAt)))
-    → l₃ ≡ sets l₂ turnAt (turnBytes (h .turn))
-    → l₄ ≡ sets l₃ postsAt (postsBytes (postsOn (h .posts) (waitingIn l₃ postsAt)))
-    → l₄ ≡ recordBytes (recordOn h (contentsIn l logAt) (waitingIn l postsAt)) ++ drop recordSize l
+    → l₂ ≡ sets l₁ panelAt (wordBytes 1 panel)
+    → l₃ ≡ sets l₂ logAt (logBytes (logOn (h .log) (contentsIn l₂ logAt)))
+    → l₄ ≡ sets l₃ turnAt (turnBytes (h .turn))
+    → l₅ ≡ sets l₄ postsAt (postsBytes (postsOn (h .posts) (waitingIn l₄ postsAt)))
+    → l₅ ≡ recordBytes (recordShowing panel h (contentsIn l logAt) (waitingIn l postsAt)) ++ drop recordSize l
 unfolding recordBytes
-head-stored h l l₁ l₂ l₃ l₄ log token services lengths room e₁ e₂ e₃ e₄ =
-    let a = head-arrays h l log token services lengths room in
-    let r = recordOn h (contentsIn l logAt) (waitingIn l postsAt) in
+head-stored panel h l l₁ l₂ l₃ l₄ l₅ log token services lengths room e₁ e₂ e₃ e₄ e₅ =
+    let a = head-arrays panel h l log token services lengths room in
+    let r = recordShowing panel h (contentsIn l logAt) (waitingIn l postsAt) in
     let w₁ = stored-word 2 (h .own) l₁ (stored-none l 0) e₁ in
-    let w₂ = stored-next logSize (logBytes (r .log)) l₂ w₁ (log-length (r .log) (a .log)) (rw (part-past heldContents (logAt + heldMessagesAt + heldContentsAt) w₁ (omega arith)) at e₂) in
-    let w₃ = stored-next turnSize (turnBytes (r .turn)) l₃ w₂ (turn-length (r .turn) (a .token)) e₃ in
-    let w₄ = stored-next postsSize (postsBytes (r .posts)) l₄ w₃ (posts-length (r .posts) (a .posts)) (rw (part-past postContents (postsAt + postContentsAt) w₃ (omega arith)) at e₄) in
-    w₄ .is ∙ front-stored recordSize (recordBytes r) l (record-length r a) room
+    let w₂ = stored-word 1 panel l₂ w₁ e₂ in
+    let w₃ = stored-next logSize (logBytes (r .log)) l₃ w₂ (log-length (r .log) (a .log)) (rw (part-past heldContents (logAt + heldMessagesAt + heldContentsAt) w₂ (omega arith)) at e₃) in
+    let w₄ = stored-next turnSize (turnBytes (r .turn)) l₄ w₃ (turn-length (r .turn) (a .token)) e₄ in
+    let w₅ = stored-next postsSize (postsBytes (r .posts)) l₅ w₄ (posts-length (r .posts) (a .posts)) (rw (part-past postContents (postsAt + postContentsAt) w₄ (omega arith)) at e₅) in
+    w₅ .is ∙ front-stored recordSize (recordBytes r) l (record-length r a) room
 
 -- ---- the contents, and then the head
 
-pub encoded : (r : Record) (h : Head) (contents waiting l l₁ l₂ l₃ : List ℕ)
+pub encoded : (r : Record) (panel : ℕ) (h : Head) (contents waiting l l₁ l₂ l₃ : List ℕ)
     → length contents ≡ heldContents
     → length waiting ≡ postContents
     → recordSize ≤ length l
     → l₁ ≡ sets l (logAt + heldMessagesAt + heldContentsAt) contents
     → l₂ ≡ sets l₁ (postsAt + postContentsAt) waiting
-    → recordOn h contents waiting ≡ r
-    → l₃ ≡ recordBytes (recordOn h (contentsIn l₂ logAt) (waitingIn l₂ postsAt)) ++ drop recordSize l₂
+    → recordShowing panel h contents waiting ≡ r
+    → l₃ ≡ recordBytes (recordShowing panel h (contentsIn l₂ logAt) (waitingIn l₂ postsAt)) ++ drop recordSize l₂
     → l₃ ≡ recordBytes r ++ drop recordSize l
-encoded r h contents waiting l l₁ l₂ l₃ size size₂ room e₁ e₂ e e₃ =
+encoded r panel h contents waiting l l₁ l₂ l₃ size size₂ room e₁ e₂ e e₃ =
     let long₁ : length l₁ ≡ length l = rw e₁ (length-sets l (logAt + heldMessagesAt + heldContentsAt) contents) in
     let there : contentsIn l₂ logAt ≡ contents =
     rw e₂ (part-before heldContents (logAt + heldMessagesAt + heldContentsAt) (postsAt + postContentsAt) waiting l₁ (omega arith)

@@ -11,7 +11,7 @@ use Rattle.words.proofs.WordLaws.{bytes-drop, length-word, word-back, word-spli
 use Rattle.words.proofs.RunLaws.{words-there, words-back}
 use Rattle.frames.specs.Layout.{longestToken}
 use Rattle.record.specs.Size.{mostMembers, mostHeld, mostPosts, heldContents, postContents}
-use Rattle.record.specs.Layout.{ownAt, logAt, turnAt, postsAt, recordSize, logRingAt, memberCountAt, membersAt, levelAt, safeAt, deliveredAt, heldMessagesAt, logSize, sendersAt, heldServicesAt, heldLengthsAt, heldContentsAt, heldSize, turnAruAt, earlierAt, turnNumberAt, broadcastAt, stallAt, waitedAt, tokenSizeAt, tokenAt, turnSize, postCountAt, postServicesAt, postLengthsAt, postContentsAt, postsSize}
+use Rattle.record.specs.Layout.{ownAt, panelAt, logAt, turnAt, postsAt, recordSize, logRingAt, memberCountAt, membersAt, levelAt, safeAt, deliveredAt, heldMessagesAt, logSize, sendersAt, heldServicesAt, heldLengthsAt, heldContentsAt, heldSize, turnAruAt, earlierAt, turnNumberAt, broadcastAt, stallAt, waitedAt, tokenSizeAt, tokenAt, turnSize, postCountAt, postServicesAt, postLengthsAt, postContentsAt, postsSize}
 use Rattle.record.specs.Bytes.{bytesAt, heldBytes, heldOf, logBytes, logOf, turnBytes, turnOf, postsBytes, postsOf, recordBytes, recordOf}
 use Rattle.record.specs.Parts.{withPosts}
 use Rattle.record.specs.RoundTrip.{BytesRestored, RecordRestored}
@@ -81,15 +81,16 @@ posts-there s b h =
 
 -- all but the posts
 abbrev beforePosts : Record → List ℕ
-beforePosts r = wordBytes 2 (r .own) ++ logBytes (r .log) ++ turnBytes (r .turn)
+beforePosts r = wordBytes 2 (r .own) ++ wordBytes 1 (r .panel) ++ logBytes (r .log) ++ turnBytes (r .turn)
 
 before-there : (s : List ℕ) → Bytes s → recordSize ≤ length s → beforePosts (recordOf s) ++ drop postsAt s ≡ s
 unfolding recordOf
 before-there s b h =
     let w₁ = word-split 2 s ownAt b (omega arith) in
-    let w₂ = placed (λ t. logBytes (logOf t)) logSize log-there s logAt b (omega arith) in
-    let w₃ = placed (λ t. turnBytes (turnOf t)) turnSize turn-there s turnAt b (omega arith) in
-    simp append-assoc (rw (w₃, w₂) w₁)
+    let w₂ = word-split 1 s panelAt b (omega arith) in
+    let w₃ = placed (λ t. logBytes (logOf t)) logSize log-there s logAt b (omega arith) in
+    let w₄ = placed (λ t. turnBytes (turnOf t)) turnSize turn-there s turnAt b (omega arith) in
+    simp append-assoc (rw (w₄, w₃, w₂) w₁)
 
 record-there : (s : List ℕ) → Bytes s → recordSize ≤ length s → recordBytes (recordOf s) ++ drop recordSize s ≡ s
 unfolding recordBytes recordOf
@@ -198,14 +199,15 @@ pub record-back : (r : Record) (s rest : List ℕ) → RecordFits r → s ≡ re
 unfolding recordBytes recordOf
 record-back r s rest fits e =
     let a = record-arrays r fits in
-    let all : Left s ownAt (wordBytes 2 (r .own) ∷ logBytes (r .log) ∷ turnBytes (r .turn) ∷ postsBytes (r .posts) ∷ []) rest = record { is = e ∙ simp append-assoc } in
+    let all : Left s ownAt (wordBytes 2 (r .own) ∷ wordBytes 1 (r .panel) ∷ logBytes (r .log) ∷ turnBytes (r .turn) ∷ postsBytes (r .posts) ∷ []) rest = record { is = e ∙ simp append-assoc } in
     let f₁ = word-first 2 (r .own) all (fits .own) in
-    let l₃ = left-next logSize (f₁ .1) (log-length (r .log) (a .log)) in
+    let f₂ = word-first 1 (r .panel) (f₁ .1) (fits .panel) in
+    let l₃ = left-next logSize (f₂ .1) (log-length (r .log) (a .log)) in
     let l₄ = left-next turnSize l₃ (turn-length (r .turn) (a .token)) in
-    let f₂ = log-back (r .log) (drop logAt s) _ (fits .log) (f₁ .1 .is) in
-    let f₃ = turn-back (r .turn) (drop turnAt s) _ (fits .turn) (l₃ .is) in
-    let f₄ = posts-back (r .posts) (drop postsAt s) rest (fits .posts) (l₄ .is) in
-    rw (f₁ .0, f₂, f₃, f₄)
+    let f₃ = log-back (r .log) (drop logAt s) _ (fits .log) (f₂ .1 .is) in
+    let f₄ = turn-back (r .turn) (drop turnAt s) _ (fits .turn) (l₃ .is) in
+    let f₅ = posts-back (r .posts) (drop postsAt s) rest (fits .posts) (l₄ .is) in
+    rw (f₁ .0, f₂ .0, f₃, f₄, f₅)
 
 pub record-restored : RecordRestored
 record-restored r e =

@@ -1,12 +1,12 @@
 -- What a whole record tells, as facts, and that a record with these facts is whole.
 use Prim.Native.Nat.{ℕ, suc, _<_, _≤_}
-use mathlib.Core.Path.{_≡_}
+use mathlib.Core.Path.{_≡_, refl}
 use mathlib.Core.Bool.{true, false, not, and-false}
 use mathlib.Core.List.{List}
-use borrow.Author.Tests.{leb-true, le-leb, eq-eqb, not-true}
+use borrow.Author.Tests.{leb-true, le-leb, eq-eqb, eqb-true, not-true}
 use native.Mathlib.Omega.{arith}
 use lib.ListN.{length, drop}
-use lib.Dec.{leb}
+use lib.Dec.{leb, eqb}
 use Rattle.words.specs.Scan.{allZero}
 use Rattle.frames.specs.Number.{mostNumber, mostId}
 use Rattle.frames.specs.Layout.{longestToken}
@@ -15,9 +15,12 @@ use Rattle.record.specs.Size.{mostMembers, mostBroadcasts, mostPosts, mo
 use Rattle.record.specs.Held.{holds}
 use Rattle.record.specs.Members.{foundable}
 use Rattle.record.specs.Ring.{ids}
-use Rattle.record.specs.Whole.{logInRange, turnInRange, postsInRange, sendersAreMembers, resendPasses, marksInOrder, arusReached, heldToLevel, nextNotHeld, contentsPadded, freePlacesZero, logUnusedZero, postsUnusedZero, turnUnusedZero, logWhole, turnWhole, postsWhole, whole}
+use Rattle.record.specs.Whole.{logInRange, turnInRange, postsInRange, sendersAreMembers, resendPasses, marksInOrder, arusReached, heldToLevel, nextNotHeld, contentsPadded, freePlacesZero, logUnusedZero, postsUnusedZero, turnUnusedZero, logWhole, turnWhole, postsWhole, panelRight, partsWhole, whole}
+use Rattle.record.specs.Panel.{undelivered}
+use Rattle.record.specs.Parts.{withParts}
 use Rattle.record.specs.declared.log.Log.{Log}
 use Rattle.record.specs.declared.turn.Turn.{Turn}
+use Rattle.record.specs.declared.posts.Posts.{Posts}
 use Rattle.record.specs.declared.Record.{Record}
 use Rattle.record.proofs.RangeFacts.{TurnRange, log-range, turn-range}
 use Rattle.record.proofs.MemberLaws.{foundable-facts, own-most}
@@ -61,6 +64,7 @@ pub record RecordGood (r : Record) : Type 0 where
   pub founded : foundable (ids (r .log)) (r .own) (r .log .ring .0) ≡ true
   pub posts : postsInRange (r .posts) ≡ true
   pub posts-rest : postsUnusedZero (r .posts) ≡ true
+  pub panel : r .panel ≡ undelivered (r .log)
 
 -- ---- the log
 
@@ -176,9 +180,13 @@ module _ (l : Log) (t : Turn) where
 
 -- ---- the record
 
+-- one that is put together shows what its log holds and has not delivered
+pub parts-show : (r : Record) (l : Log) (t : Turn) (p : Posts) → withParts r l t p .panel ≡ undelivered l
+parts-show r l t p = refl
+
 module _ (r : Record) where
   pub whole-good : whole r ≡ true → RecordGood r
-  unfolding whole postsWhole
+  unfolding whole panelRight partsWhole postsWhole
   whole-good e =
       let log = part e (λ (f : logWhole (r .own) (r .log) ≡ false). simp (f, and-false)) in
       record {
@@ -187,10 +195,11 @@ module _ (r : Record) where
         founded = log-founded (r .log) (r .own) log;
         posts = part e (λ (f : postsInRange (r .posts) ≡ false). simp (f, and-false));
         posts-rest = part e (λ (f : postsUnusedZero (r .posts) ≡ false). simp (f, and-false));
+        panel = eqb-true (r .panel) (undelivered (r .log)) (part e (λ (f : eqb (r .panel) (undelivered (r .log)) ≡ false). rw f));
       }
 
   pub good-whole : RecordGood r → whole r ≡ true
-  unfolding whole postsWhole
+  unfolding whole panelRight partsWhole postsWhole
   good-whole g =
       rw (
         le-leb (r .own) mostId (own-most (ids (r .log)) (r .own) (foundable-facts (ids (r .log)) (r .own) (r .log .ring .0) (g .founded))),
@@ -198,4 +207,5 @@ module _ (r : Record) where
         good-turn (r .log) (r .turn) (g .turn),
         g .posts,
         g .posts-rest,
+        eq-eqb (r .panel) (undelivered (r .log)) (g .panel),
       )

@@ -2,14 +2,18 @@
 use Prim.Native.Nat.{ℕ, _-_, _≤_}
 use mathlib.Core.Path.{_≡_, sym, _∙_}
 use mathlib.Core.Bool.{Bool, true, false, not, _&&_, and-false, and-true}
+use mathlib.Core.List.{List}
 use native.Mathlib.Nat.{sub-zero}
-use borrow.Author.Tests.{le-leb, not-true, not-false}
+use borrow.Author.Tests.{le-leb, eq-eqb, ne-eqb, not-true, not-false}
 use lib.ListN.{take}
 use Rattle.frames.specs.Number.{mostId}
 use Rattle.frames.proofs.Facts.{part}
 use Rattle.record.specs.Size.{mostMembers}
 use Rattle.record.specs.Members.{foundable}
-use Rattle.record.specs.Whole.{logInRange, turnInRange, postsInRange, sendersAreMembers, resendPasses, marksInOrder, arusReached, heldToLevel, nextNotHeld, logUnusedZero, turnUnusedZero, postsUnusedZero, logWhole, turnWhole, postsWhole, whole}
+use Rattle.record.specs.Whole.{logInRange, turnInRange, postsInRange, sendersAreMembers, resendPasses, marksInOrder, arusReached, heldToLevel, nextNotHeld, logUnusedZero, turnUnusedZero, postsUnusedZero, logWhole, turnWhole, postsWhole, panelRight, partsWhole, whole}
+use Rattle.record.specs.Panel.{undelivered}
+use Rattle.record.specs.inner.Head.{logOn, recordOn, recordHead}
+use Rattle.record.specs.declared.head.Head.{Head}
 use Rattle.record.specs.declared.log.Log.{Log}
 use Rattle.record.specs.declared.turn.Turn.{Turn}
 use Rattle.record.specs.declared.posts.Posts.{Posts}
@@ -69,19 +73,33 @@ module _ (p : Posts) (t : Bool) (e : t ≡ postsInRange p) where
   posts-tested f z ez = rw (sym e ∙ not-false t f, ez)
 
 module _ (r : Record) (u : Bool) (g : u ≡ postsWhole (r .posts)) where
-  pub whole-postless : not u ≡ true → false ≡ whole r
-  unfolding whole
+  pub whole-postless : not u ≡ true → false ≡ partsWhole r
+  unfolding partsWhole
   whole-postless f = simp (sym g ∙ not-true u f, and-false)
 
   module _ (t : Bool) (e : t ≡ logWhole (r .own) (r .log)) where
-    pub whole-refused : not t ≡ true → false ≡ whole r
-    unfolding whole
+    pub whole-refused : not t ≡ true → false ≡ partsWhole r
+    unfolding partsWhole
     whole-refused f = simp (sym e ∙ not-true t f, and-false)
 
     pub members-few : not t ≡ false → r .log .count ≤ mostMembers
     unfolding logWhole
     members-few f = log-range (r .log) (part (sym e ∙ not-false t f) (λ (h : logInRange (r .log) ≡ false). rw h)) .count
 
-    pub whole-tested : not u ≡ false → not t ≡ false → r .own ≤ mostId → (a : Bool) → a ≡ turnWhole (r .log) (r .turn) → a ≡ whole r
-    unfolding whole
+    pub whole-tested : not u ≡ false → not t ≡ false → r .own ≤ mostId → (a : Bool) → a ≡ turnWhole (r .log) (r .turn) → a ≡ partsWhole r
+    unfolding partsWhole
     whole-tested k f own a ea = simp (le-leb (r .own) mostId own, sym e ∙ not-false t f, sym g ∙ not-false u k, ea, and-true)
+
+-- ---- the panel's count, of a record by value
+
+module _ (r : Record) (h : Head) (count : ℕ) (e : h ≡ recordHead r) (counts : (contents : List ℕ) → count ≡ undelivered (logOn (h .log) contents)) where
+  counted : count ≡ undelivered (r .log)
+  counted = counts (r .log .held .contents) ∙ rw e
+
+  pub shown-wrong : (r .panel ≡ count → ⊥) → false ≡ whole r
+  unfolding whole panelRight
+  shown-wrong ne = rw (ne-eqb (r .panel) (undelivered (r .log)) (λ q. ne (q ∙ sym counted)))
+
+  pub shown-right : r .panel ≡ count → (b : Bool) → b ≡ partsWhole (recordOn h (r .log .held .contents) (r .posts .contents)) → b ≡ whole r
+  unfolding whole panelRight partsWhole
+  shown-right same b f = rw (eq-eqb (r .panel) (undelivered (r .log)) (same ∙ counted)) (rw e at f)

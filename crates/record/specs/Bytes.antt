@@ -7,7 +7,7 @@ use Rattle.words.specs.Word.{wordAt, wordBytes}
 use Rattle.words.specs.Run.{words, wordsBytes}
 use Rattle.frames.specs.Layout.{longestToken}
 use Rattle.record.specs.Size.{mostMembers, mostHeld, mostPosts, heldContents, postContents}
-use Rattle.record.specs.Layout.{ownAt, logAt, turnAt, postsAt, logRingAt, memberCountAt, membersAt, levelAt, safeAt, deliveredAt, heldMessagesAt, sendersAt, heldServicesAt, heldLengthsAt, heldContentsAt, turnAruAt, earlierAt, turnNumberAt, broadcastAt, stallAt, waitedAt, tokenSizeAt, tokenAt, postCountAt, postServicesAt, postLengthsAt, postContentsAt}
+use Rattle.record.specs.Layout.{ownAt, panelAt, logAt, turnAt, postsAt, logRingAt, memberCountAt, membersAt, levelAt, safeAt, deliveredAt, heldMessagesAt, sendersAt, heldServicesAt, heldLengthsAt, heldContentsAt, turnAruAt, earlierAt, turnNumberAt, broadcastAt, stallAt, waitedAt, tokenSizeAt, tokenAt, postCountAt, postServicesAt, postLengthsAt, postContentsAt}
 use Rattle.record.specs.declared.log.Held.{Held}
 use Rattle.record.specs.declared.log.Log.{Log}
 use Rattle.record.specs.declared.turn.Turn.{Turn}
@@ -99,12 +99,13 @@ postsOf s =
 -- ---- the record
 
 unfoldable pub recordBytes : Record → List ℕ
-recordBytes r = wordBytes 2 (r .own) ++ logBytes (r .log) ++ turnBytes (r .turn) ++ postsBytes (r .posts)
+recordBytes r = wordBytes 2 (r .own) ++ wordBytes 1 (r .panel) ++ logBytes (r .log) ++ turnBytes (r .turn) ++ postsBytes (r .posts)
 
 unfoldable pub recordOf : List ℕ → Record
 recordOf s =
     record {
       own = wordAt 2 s ownAt;
+      panel = wordAt 1 s panelAt;
       log = logOf (drop logAt s);
       turn = turnOf (drop turnAt s);
       posts = postsOf (drop postsAt s);

@@ -58,4 +58,4 @@ freshPosts =
     }
 
 unfoldable pub fresh : List ℕ → ℕ → ℕ → Record
-fresh ids own ring = record { own = own; log = freshLog ids ring; turn = freshTurn; posts = freshPosts }
+fresh ids own ring = record { own = own; panel = 0; log = freshLog ids ring; turn = freshTurn; posts = freshPosts }

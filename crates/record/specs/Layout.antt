@@ -93,13 +93,17 @@ postContentsAt = postLengthsAt + mostPosts
 abbrev pub postsSize : ℕ
 postsSize = postContentsAt + postContents
 
--- ---- the record: own id, log, turn, posts
+-- ---- the record: own id, the panel's count, log, turn, posts
 
 abbrev pub ownAt : ℕ
 ownAt = 0
 
+-- what the panel reads; it never moves again
+abbrev pub panelAt : ℕ
+panelAt = ownAt + 2
+
 abbrev pub logAt : ℕ
-logAt = ownAt + 2
+logAt = panelAt + 1
 
 abbrev pub turnAt : ℕ
 turnAt = logAt + logSize

@@ -2,8 +2,9 @@ pub mod Size
 pub mod Layout
 pub mod Count
 pub mod Contents
-pub mod Parts
 pub mod Held
+pub mod Panel
+pub mod Parts
 pub mod Posts
 pub mod Turn
 pub mod Members

@@ -14,6 +14,7 @@ use Rattle.record.specs.Count.{everyFrom}
 use Rattle.record.specs.Contents.{padding}
 use Rattle.record.specs.Held.{inUse, holds, heldNumbers}
 use Rattle.record.specs.Turn.{mayResend, remembered}
+use Rattle.record.specs.Panel.{undelivered}
 use Rattle.record.specs.Members.{isMember, foundable}
 use Rattle.record.specs.Ring.{current, ids, tokenPasses}
 use Rattle.record.specs.declared.log.Held.{Held}
@@ -139,5 +140,13 @@ turnWhole l t = turnInRange t && resendPasses (l .ring .0) (ids l) t && arusReac
 unfoldable pub postsWhole : Posts → Bool
 postsWhole p = postsInRange p && postsUnusedZero p
 
+-- the panel's count is that of the messages held and not delivered [document 02, Job 2]
+unfoldable pub panelRight : Record → Bool
+panelRight r = eqb (r .panel) (undelivered (current r))
+
+-- whatever the panel's count is
+unfoldable pub partsWhole : Record → Bool
+partsWhole r = leb (r .own) mostId && logWhole (r .own) (current r) && turnWhole (current r) (r .turn) && postsWhole (r .posts)
+
 unfoldable pub whole : Record → Bool
-whole r = leb (r .own) mostId && logWhole (r .own) (current r) && turnWhole (current r) (r .turn) && postsWhole (r .posts)
+whole r = panelRight r && partsWhole r

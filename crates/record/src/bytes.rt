@@ -8,16 +8,17 @@ ghost use Rattle.frames.specs.Layout.{mostContent};
 ghost use Rattle.record.specs.Size.{mostMembers, mostPosts};
 ghost use Rattle.record.specs.Fresh.{fresh};
 ghost use Rattle.record.specs.Posts.{queued};
-ghost use Rattle.record.specs.Layout.{recordSize};
+ghost use Rattle.record.specs.Layout.{recordSize, logAt, postsAt};
 ghost use Rattle.record.specs.Bytes.{recordOf, recordBytes};
 ghost use Rattle.record.specs.Parts.{withPosts};
-ghost use Rattle.record.specs.inner.Head.{recordIn};
+ghost use Rattle.record.specs.inner.Head.{recordShowing, recordIn, recordHead, contentsIn, waitingIn};
 use crate::Record;
 use crate::fresh;
 use crate::head;
 use crate::head::Head;
 use crate::layout;
 use crate::log_bytes;
+use crate::panel;
 use crate::posts;
 use crate::posts_bytes;
 use crate::size;
@@ -28,7 +29,7 @@ use frames::RingNumber;
 // The head of the record in the first RECORD_SIZE bytes. Ruled out: two marks swapped; a field one byte off.
 pub fn get_head(s: &[u8]) -> Head
     requires { ⌜ recordSize ≤ length (now s) ⌝ }
-    ensures { λ r. ⌜ recordIn r (now (s .entry)) ≡ recordOf (now (s .entry)) ⌝ }
+    ensures { λ r. ⌜ r ≡ recordHead (recordOf (now (s .entry))) ⌝ }
 {
     Head {
         own: words::get_u16(s, layout::OWN_AT),
@@ -38,15 +39,27 @@ pub fn get_head(s: &[u8]) -> Head
     }
 }
 
-// To the first RECORD_SIZE bytes. Ruled out: a content or a byte past them changed; a field left out.
+// A head and the panel's count, to the first RECORD_SIZE bytes: the contents stay.
+fn put_showing(out: &mut [u8], panel: u8, h: Head)
+    requires { ⌜ recordSize ≤ length (now out) ⌝ }
+    ensures { λ _. ⌜
+        now (out .exit)
+        ≡ recordBytes (recordShowing panel h (contentsIn (now (out .entry)) logAt) (waitingIn (now (out .entry)) postsAt))
+        ++ drop recordSize (now (out .entry)) ⌝ }
+{
+    words::put_u16(out, layout::OWN_AT, h.own);
+    words::put_u8(out, layout::PANEL_AT, panel);
+    log_bytes::put_log_head(out, layout::LOG_AT, h.log);
+    turn_bytes::put_turn(out, layout::TURN_AT, h.turn);
+    posts_bytes::put_posts_head(out, layout::POSTS_AT, h.posts);
+}
+
+// The same with the count as it has to be. Ruled out: a content or a byte past them changed; the count left as it was.
 pub fn put_head(out: &mut [u8], h: Head)
     requires { ⌜ recordSize ≤ length (now out) ⌝ }
     ensures { λ _. ⌜ now (out .exit) ≡ recordBytes (recordIn h (now (out .entry))) ++ drop recordSize (now (out .entry)) ⌝ }
 {
-    words::put_u16(out, layout::OWN_AT, h.own);
-    log_bytes::put_log_head(out, layout::LOG_AT, h.log);
-    turn_bytes::put_turn(out, layout::TURN_AT, h.turn);
-    posts_bytes::put_posts_head(out, layout::POSTS_AT, h.posts);
+    put_showing(out, panel::undelivered(h.log), h);
 }
 
 // The record in the first RECORD_SIZE bytes.
@@ -58,7 +71,8 @@ pub fn decode(s: &[u8]) -> Record
     words::get_bytes(s, layout::CONTENTS_AT, size::HELD_CONTENTS, &mut contents);
     let mut waiting = [0u8; size::POST_CONTENTS];
     words::get_bytes(s, layout::WAITING_AT, size::POST_CONTENTS, &mut waiting);
-    head::record_on(get_head(s), contents, waiting)
+    let panel = words::get_u8(s, layout::PANEL_AT);
+    head::record_showing(panel, get_head(s), contents, waiting)
 }
 
 // To the first RECORD_SIZE bytes. Ruled out: a byte past them changed; a field left out.
@@ -70,7 +84,7 @@ pub fn encode(r: Record, out: &mut [u8])
     let waiting = r.posts.contents;
     words::put_bytes(out, layout::CONTENTS_AT, &contents);
     words::put_bytes(out, layout::WAITING_AT, &waiting);
-    put_head(out, head::head_of(r));
+    put_showing(out, r.panel, head::head_of(r));
 }
 
 // A fresh record, to the first RECORD_SIZE bytes. Ruled out: a content that stood there before; a byte past
@@ -83,7 +97,7 @@ pub fn put_fresh(out: &mut [u8], ids: &[u16], own: u16, ring: RingNumber)
 {
     words::put_bytes(out, layout::CONTENTS_AT, &[0u8; size::HELD_CONTENTS]);
     words::put_bytes(out, layout::WAITING_AT, &[0u8; size::POST_CONTENTS]);
-    put_head(out, fresh::fresh_head(ids, own, ring));
+    put_showing(out, 0, fresh::fresh_head(ids, own, ring));
 }
 
 // What a station keeps from one visit to the next, in the record's bytes.

@@ -3,7 +3,7 @@ ghost use mathlib.Core.Path.{_≡_};
 ghost use Prim.Native.Nat.{_≤_};
 ghost use lib.ListN.{length, replicate};
 ghost use Rattle.record.specs.Size.{mostMembers, heldContents, postContents};
-ghost use Rattle.record.specs.inner.Head.{logOn, postsOn, recordOn};
+ghost use Rattle.record.specs.inner.Head.{logOn, postsOn, recordShowing};
 ghost use Rattle.record.specs.Fresh.{membersPlaced, freshLog, freshTurn, freshPosts, fresh};
 use crate::head::Head;
 use crate::head::LogHead;
@@ -74,7 +74,7 @@ fn fresh_posts() -> PostsHead
 pub fn fresh_head(ids: &[u16], own: u16, ring: RingNumber) -> Head
     requires { ⌜ length (now ids) ≤ mostMembers ⌝ }
     ensures { λ r. ⌜
-        recordOn r (replicate heldContents 0) (replicate postContents 0) ≡ fresh (now (ids .entry)) own (ring .0) ⌝ }
+        recordShowing 0 r (replicate heldContents 0) (replicate postContents 0) ≡ fresh (now (ids .entry)) own (ring .0) ⌝ }
 {
     Head {
         own,

@@ -2,7 +2,7 @@
 // so a head is small and goes by value where the whole would be copied. A count stands last in it, behind the
 // arrays: there is no hole between fields, and a copy moves them by whole words.
 ghost use mathlib.Core.Path.{_≡_};
-ghost use Rattle.record.specs.inner.Head.{recordOn, recordHead, headWith, headWithParts};
+ghost use Rattle.record.specs.inner.Head.{recordShowing, recordHead, headWith, headWithParts};
 use crate::Record;
 use crate::log::Held;
 use crate::log::Log;
@@ -129,13 +129,14 @@ pub fn head_of(r: Record) -> Head
     }
 }
 
-// A head and its contents.
-pub fn record_on(
+// A head, the panel's count and the contents.
+pub fn record_showing(
+    panel: u8,
     h: Head,
     contents: [u8; size::HELD_CONTENTS],
     waiting: [u8; size::POST_CONTENTS],
 ) -> Record
-    ensures { λ r. ⌜ r ≡ recordOn h contents waiting ⌝ }
+    ensures { λ r. ⌜ r ≡ recordShowing panel h contents waiting ⌝ }
 {
     let ring = h.log.ring;
     let members = h.log.members;
@@ -150,6 +151,7 @@ pub fn record_on(
     let post_lengths = h.posts.lengths;
     Record {
         own: h.own,
+        panel,
         log: Log {
             ring,
             count: h.log.count,

@@ -63,7 +63,10 @@ const POSTS_SIZE: usize = POST_CONTENTS_AT + size::POST_CONTENTS;
 // The record.
 pub const OWN_AT: usize = 0;
 
-pub const LOG_AT: usize = OWN_AT + 2;
+// What the panel reads; it never moves again.
+pub const PANEL_AT: usize = OWN_AT + 2;
+
+pub const LOG_AT: usize = PANEL_AT + 1;
 
 pub const TURN_AT: usize = LOG_AT + LOG_SIZE;
 

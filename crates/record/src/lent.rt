@@ -18,6 +18,7 @@ use crate::head::LogHead;
 use crate::head::PostsHead;
 use crate::held;
 use crate::layout;
+use crate::panel;
 use crate::posts;
 use crate::size;
 use crate::whole;
@@ -43,6 +44,9 @@ pub fn is_whole_at(h: Head, s: &[u8]) -> bool
     ensures { λ b. ⌜ b ≡ bytesWhole (now (s .entry)) ⌝ }
 {
     if s.len() != layout::RECORD_SIZE {
+        return false;
+    }
+    if words::get_u8(s, layout::PANEL_AT) != panel::undelivered(h.log) {
         return false;
     }
     whole::is_whole_on(

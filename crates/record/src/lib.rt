@@ -8,6 +8,7 @@ mod lent;
 mod log;
 mod log_bytes;
 mod members;
+mod panel;
 mod posts;
 mod posts_bytes;
 mod range;
@@ -33,6 +34,7 @@ pub use log::Log;
 pub use members::ids_follow;
 pub use members::is_member;
 pub use members::members_counted;
+pub use panel::undelivered;
 pub use posts::Posts;
 pub use ring::representative_of;
 pub use ring::this_ring;
@@ -63,6 +65,8 @@ pub use lent::take_oldest_in;
 
 pub struct Record {
     pub own: u16,
+    // How many messages are held and not delivered: what the panel shows.
+    pub panel: u8,
     pub log: Log,
     pub turn: Turn,
     pub posts: Posts,

@@ -9,7 +9,7 @@ ghost use Rattle.frames.specs.Number.{mostNumber};
 ghost use Rattle.frames.specs.Layout.{longestToken};
 ghost use Rattle.record.specs.Size.{mostMembers, heldContents, postContents};
 ghost use Rattle.record.specs.inner.Head.{logOn, postsOn, recordOn};
-ghost use Rattle.record.specs.Whole.{sendersAreMembers, resendPasses, marksInOrder, arusReached, heldToLevel, nextNotHeld, logWhole, turnWhole, postsWhole, whole};
+ghost use Rattle.record.specs.Whole.{sendersAreMembers, resendPasses, marksInOrder, arusReached, heldToLevel, nextNotHeld, logWhole, turnWhole, postsWhole, partsWhole, whole};
 use crate::Record;
 use crate::head;
 use crate::head::Head;
@@ -17,6 +17,7 @@ use crate::head::LogHead;
 use crate::head::PostsHead;
 use crate::held;
 use crate::members;
+use crate::panel;
 use crate::range;
 use crate::ring;
 use crate::size;
@@ -156,11 +157,11 @@ fn posts_whole(p: PostsHead, waiting: &[u8]) -> bool
     unused::posts_unused_zero(p, waiting)
 }
 
-// Any values of the head and any contents: the posts, then the log, which the turn needs. Ruled out: a record with a
+// All clauses but the panel's, of any values of the head and any contents: the posts, then the log, which the turn needs. Ruled out: a record with a
 // gap below its level; one whose token is another ring's.
 pub fn is_whole_on(h: Head, contents: &[u8], waiting: &[u8]) -> bool
     requires { ⌜ (length (now contents) ≡ heldContents) × (length (now waiting) ≡ postContents) ⌝ }
-    ensures { λ b. ⌜ b ≡ whole (recordOn h (now (contents .entry)) (now (waiting .entry))) ⌝ }
+    ensures { λ b. ⌜ b ≡ partsWhole (recordOn h (now (contents .entry)) (now (waiting .entry))) ⌝ }
 {
     if !posts_whole(h.posts, waiting) {
         return false;
@@ -177,5 +178,9 @@ pub fn is_whole(r: Record) -> bool
 {
     let contents = r.log.held.contents;
     let waiting = r.posts.contents;
-    is_whole_on(head::head_of(r), &contents, &waiting)
+    let h = head::head_of(r);
+    if r.panel != panel::undelivered(h.log) {
+        return false;
+    }
+    is_whole_on(h, &contents, &waiting)
 }

@@ -13,4 +13,5 @@ pub mod NewestSeen
 pub mod Newest
 pub mod LentRun
 pub mod OverBytes
+pub mod Panel
 pub mod Promise

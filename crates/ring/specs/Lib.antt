@@ -6,6 +6,7 @@ pub mod Listed
 pub mod AlwaysWhole
 pub mod Newest
 pub mod OverBytes
+pub mod Panel
 pub mod Promise
 pub mod Stations
 pub mod trials

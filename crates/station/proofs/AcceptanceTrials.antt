@@ -17,7 +17,8 @@ use Rattle.record.specs.Posts.{postsFrom, queued, taken}
 use Rattle.record.specs.Members.{idsFollow, foundable}
 use Rattle.record.specs.Ring.{thisRing, tokenMembers, tokenPasses}
 use Rattle.record.specs.Fresh.{freshHeld, membersPlaced, freshLog, freshTurn, freshPosts, fresh}
-use Rattle.record.specs.Whole.{heldInRange, numbersInRange, logInRange, turnInRange, postsInRange, sendersAreMembers, resendPasses, marksInOrder, arusReached, heldToLevel, nextNotHeld, contentsPadded, freePlacesZero, logUnusedZero, postsUnusedZero, turnUnusedZero, logWhole, turnWhole, postsWhole, whole}
+use Rattle.record.specs.Whole.{heldInRange, numbersInRange, logInRange, turnInRange, postsInRange, sendersAreMembers, resendPasses, marksInOrder, arusReached, heldToLevel, nextNotHeld, contentsPadded, freePlacesZero, logUnusedZero, postsUnusedZero, turnUnusedZero, logWhole, turnWhole, postsWhole, panelRight, partsWhole, whole}
+use Rattle.record.specs.Panel.{undelivered}
 use Rattle.station.specs.Found.{firstToken, founded}
 use Rattle.station.specs.Post.{posted}
 use Rattle.station.specs.Resend.{resent}
@@ -37,7 +38,7 @@ use Rattle.station.specs.trials.Trials.{calling, table}
 
 -- opens all that a row computes with
 unfoldable pub opened : List Trial → Bool
-unfolding flatten wordBytes wordOf wordAt words wordsBytes every headerOf headerFollows headerBytes messageOf messageFollows messageFixed numbersIn numbered requestsOf requestsFollow tokenOf tokenFollows tokenFixed blankToken readMessage readToken readOf firstBytes everyFrom holds heldNumbers heldWith cleared clearedFrom letGo postsFrom queued taken idsFollow foundable thisRing tokenMembers tokenPasses freshHeld membersPlaced freshLog freshTurn freshPosts fresh heldInRange numbersInRange logInRange turnInRange postsInRange sendersAreMembers resendPasses marksInOrder arusReached heldToLevel nextNotHeld contentsPadded freePlacesZero logUnusedZero postsUnusedZero turnUnusedZero logWhole turnWhole postsWhole whole firstToken founded posted resent reached levelOf raised frameWith takeWhile due delivered isHad logWithMessage resendEnded messageHeard others roundAllowance othersBacklog share allowance those requests repeats unanswered newCount withSent numbersAfter newNumbers highest′ logNow setsAru aru′ blocker′ stall′ deaf safe′ missing requests′ broadcasts round′ waits′ backlog′ nextIn token′ turn′ log′ rec′ written accepted coversHeld messageArrived tokenArrived arrived framesUpTo framesIn sendersTo loadedWith allPass
+unfolding flatten wordBytes wordOf wordAt words wordsBytes every headerOf headerFollows headerBytes messageOf messageFollows messageFixed numbersIn numbered requestsOf requestsFollow tokenOf tokenFollows tokenFixed blankToken readMessage readToken readOf firstBytes everyFrom holds heldNumbers heldWith cleared clearedFrom letGo postsFrom queued taken idsFollow foundable thisRing tokenMembers tokenPasses freshHeld membersPlaced freshLog freshTurn freshPosts fresh heldInRange numbersInRange logInRange turnInRange postsInRange sendersAreMembers resendPasses marksInOrder arusReached heldToLevel nextNotHeld contentsPadded freePlacesZero logUnusedZero postsUnusedZero turnUnusedZero logWhole turnWhole postsWhole undelivered panelRight partsWhole whole firstToken founded posted resent reached levelOf raised frameWith takeWhile due delivered isHad logWithMessage resendEnded messageHeard others roundAllowance othersBacklog share allowance those requests repeats unanswered newCount withSent numbersAfter newNumbers highest′ logNow setsAru aru′ blocker′ stall′ deaf safe′ missing requests′ broadcasts round′ waits′ backlog′ nextIn token′ turn′ log′ rec′ written accepted coversHeld messageArrived tokenArrived arrived framesUpTo framesIn sendersTo loadedWith allPass
 opened rows = allPass rows
 
 calling-pass : allPass calling ≡ true

@@ -134,6 +134,7 @@ module _ (r : Record) (service : ℕ) (content : List ℕ) (w : whole r ≡ true
         founded = g .founded;
         posts = queued-in-range (r .posts) service content room short posts-good known;
         posts-rest = queued-unused-zero (r .posts) service content room short posts-good (g .posts-rest);
+        panel = g .panel;
       })
 
   with-post-one : waiting (withPost r service content .posts) ≡ waiting (r .posts) ++ (record { service = service; content = content } ∷ [])

@@ -8,7 +8,8 @@ use Rattle.words.specs.Scan.{every}
 use Rattle.frames.specs.Header.{headerBytes}
 use Rattle.frames.specs.Token.{numbersIn, numbered, tokenFixed}
 use Rattle.record.specs.Count.{those, numbersAfter}
-use Rattle.record.specs.Held.{holds, heldWith, cleared, clearedFrom, letGo}
+use Rattle.record.specs.Panel.{undelivered}
+use Rattle.record.specs.Held.{holds, heldNumbers, heldWith, cleared, clearedFrom, letGo}
 use Rattle.record.specs.Posts.{postsFrom, taken}
 use Rattle.record.specs.Fresh.{freshHeld, membersPlaced, freshLog, freshTurn, freshPosts, fresh}
 use Rattle.visit.specs.Level.{reached, levelOf, raised}
@@ -19,9 +20,9 @@ use Rattle.visit.specs.trials.Marks.{marking}
 use Rattle.visit.specs.trials.Shares.{sharing}
 
 pub marks-pass : allPass marking ≡ true
-unfolding flatten wordBytes wordsBytes every headerBytes numbersIn numbered tokenFixed holds heldWith cleared clearedFrom letGo postsFrom taken freshHeld membersPlaced freshLog freshTurn freshPosts fresh reached levelOf raised frameWith takeWhile due delivered others roundAllowance othersBacklog share allowance those requests repeats unanswered newCount withSent numbersAfter newNumbers highest′ logNow setsAru aru′ blocker′ stall′ safe′ missing requests′ broadcasts round′ waits′ backlog′ nextIn token′ turn′ log′ rec′ sendersTo allPass
+unfolding flatten wordBytes wordsBytes every headerBytes numbersIn numbered tokenFixed holds heldWith cleared clearedFrom letGo postsFrom taken undelivered heldNumbers freshHeld membersPlaced freshLog freshTurn freshPosts fresh reached levelOf raised frameWith takeWhile due delivered others roundAllowance othersBacklog share allowance those requests repeats unanswered newCount withSent numbersAfter newNumbers highest′ logNow setsAru aru′ blocker′ stall′ safe′ missing requests′ broadcasts round′ waits′ backlog′ nextIn token′ turn′ log′ rec′ sendersTo allPass
 marks-pass = refl
 
 pub shares-pass : allPass sharing ≡ true
-unfolding freshHeld membersPlaced freshLog freshTurn freshPosts fresh others roundAllowance othersBacklog share allowance allPass
+unfolding undelivered heldNumbers freshHeld membersPlaced freshLog freshTurn freshPosts fresh others roundAllowance othersBacklog share allowance allPass
 shares-pass = refl

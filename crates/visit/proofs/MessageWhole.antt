@@ -22,7 +22,7 @@ use Rattle.record.specs.declared.Record.{Record}
 use Rattle.record.proofs.ListLaws.{zeros-zero}
 use Rattle.record.proofs.MemberLaws.{leave-none}
 use Rattle.record.proofs.HeldWhole.{EntryGood}
-use Rattle.record.proofs.WholeFacts.{LogGood, TurnGood, whole-good, good-whole}
+use Rattle.record.proofs.WholeFacts.{LogGood, TurnGood, whole-good, good-whole, parts-show}
 use Rattle.visit.specs.Level.{raised}
 use Rattle.visit.specs.Deliver.{delivered}
 use Rattle.visit.specs.Message.{isHad, isAhead, entryIn, logWithMessage, resendEnded, recHeard}
@@ -130,4 +130,5 @@ heard-whole r m content w follows member =
       founded = rw (ring, members) (g .founded);
       posts = g .posts;
       posts-rest = g .posts-rest;
+      panel = parts-show r (delivered l (l .safe .0)) (resendEnded (r .turn)) (r .posts);
     })

@@ -18,8 +18,9 @@ use Rattle.record.specs.Held.{letGo}
 use Rattle.record.specs.Ring.{ids}
 use Rattle.record.specs.Whole.{resendPasses, whole}
 use Rattle.record.proofs.ListLaws.{zeros-zero}
+use Rattle.record.specs.Posts.{taken}
 use Rattle.record.proofs.PostsWhole.{taken-in-range, taken-unused-zero}
-use Rattle.record.proofs.WholeFacts.{LogGood, TurnGood, good-whole}
+use Rattle.record.proofs.WholeFacts.{LogGood, TurnGood, good-whole, parts-show}
 use Rattle.visit.specs.Deliver.{due, delivered}
 use Rattle.visit.specs.Visit.{Visit, log, turn, posts, own, newCount, logNow, level′, ownOrNobody, setsAru, aru′, blocker′, isNobody, stall′, safe′, token′, turn′, log′, rec′}
 use Rattle.visit.specs.Acceptable.{Acceptable}
@@ -129,4 +130,5 @@ module _ (v : Visit) (a : Acceptable v) where
         founded = rw (log-ring .0, log-ring .1) (facts v a .founded);
         posts = taken-in-range (posts v) (newCount v) (new-posts v) (facts v a .posts);
         posts-rest = taken-unused-zero (posts v) (newCount v) (new-posts v) (facts v a .posts) (facts v a .posts-rest);
+        panel = parts-show (v .rec) (log′ v) (turn′ v) (taken (posts v) (newCount v));
       })

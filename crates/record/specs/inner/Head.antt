@@ -5,6 +5,7 @@ use Rattle.frames.specs.declared.number.MessageNumber.{MessageNumber}
 use Rattle.record.specs.Size.{heldContents, postContents}
 use Rattle.record.specs.Layout.{logAt, postsAt, heldMessagesAt, heldContentsAt, postContentsAt}
 use Rattle.record.specs.Bytes.{bytesAt}
+use Rattle.record.specs.Panel.{undelivered}
 use Rattle.record.specs.declared.head.LogHead.{LogHead}
 use Rattle.record.specs.declared.head.PostsHead.{PostsHead}
 use Rattle.record.specs.declared.head.Head.{Head}
@@ -36,9 +37,13 @@ logOn l contents =
 abbrev pub postsOn : PostsHead → List ℕ → Posts
 postsOn p contents = record { count = p .count; services = p .services; lengths = p .lengths; contents = contents }
 
--- the contents of the held messages, and of the waiting posts
+-- a panel's count, the contents of the held messages, and of the waiting posts
+abbrev pub recordShowing : ℕ → Head → List ℕ → List ℕ → Record
+recordShowing panel h contents waiting = record { own = h .own; panel = panel; log = logOn (h .log) contents; turn = h .turn; posts = postsOn (h .posts) waiting }
+
+-- the count as it has to be
 abbrev pub recordOn : Head → List ℕ → List ℕ → Record
-recordOn h contents waiting = record { own = h .own; log = logOn (h .log) contents; turn = h .turn; posts = postsOn (h .posts) waiting }
+recordOn h contents waiting = recordShowing (undelivered (logOn (h .log) contents)) h contents waiting
 
 -- a head with other parts, as `withParts` of a record
 abbrev pub headWithParts : Head → LogHead → Turn → PostsHead → Head

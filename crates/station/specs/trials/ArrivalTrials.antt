@@ -246,6 +246,31 @@ delivering =
     ∷ row (outcome (heard (twice .rec) 1 1 (bytes 2))) 4
     ∷ []
 
+-- ---- the panel's count [document 02, Job 2]
+
+-- the same station with another count
+abbrev pub showing : ℕ → Record → Record
+showing n r = record { own = r .own; panel = n; log = r .log; turn = r .turn; posts = r .posts }
+
+abbrev pub panels : List Trial
+panels =
+    -- nothing is held
+    row (station .panel) 0
+    -- one behind a gap counts; once the gap is closed both are delivered
+    ∷ row (heard station 2 0 [] .rec .panel) 1
+    ∷ row (heard (heard station 2 0 [] .rec) 1 0 [] .rec .panel) 0
+    -- one that is ahead is not held
+    ∷ row (heard station 33 0 [] .rec .panel) 0
+    -- a safe one waits, and the one behind it; not after one forwarding, but when the safe mark reaches them they are delivered
+    ∷ row (heard1 .rec .panel) 1
+    ∷ row (heard2 .rec .panel) 2
+    ∷ row (once .rec .panel) 2
+    ∷ row (twice .rec .panel) 0
+    -- another count is not whole
+    ∷ row (refusal (arrives (showing 1 station) [])) 2
+    ∷ row (refusal (arrives (showing 0 (heard1 .rec)) [])) 2
+    ∷ []
+
 -- ---- questions at the door
 
 -- the token that `forwarded` accepted
@@ -312,7 +337,7 @@ resendings =
 -- ---- the three parts: of messages, of tokens, of both at the door
 
 abbrev pub hearing : List Trial
-hearing = samples ++ messages ++ delivering
+hearing = samples ++ messages ++ delivering ++ panels
 
 abbrev pub visiting : List Trial
 visiting = marking ++ arus ++ forwarding ++ flow ++ sharing ++ contents ++ stalling ++ requesting

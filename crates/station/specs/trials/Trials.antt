@@ -8,6 +8,7 @@ use Rattle.record.specs.Layout.{recordSize}
 use Rattle.frames.specs.Layout.{shortestToken, longestToken}
 use Rattle.frames.specs.trials.Trials.{firstBytes}
 use Rattle.record.specs.Fresh.{freshLog, freshPosts, fresh}
+use Rattle.record.specs.Parts.{withParts}
 use Rattle.record.specs.declared.Record.{Record}
 use Rattle.station.specs.Answer.{outcomeOf}
 use Rattle.station.specs.Reply.{Reply}
@@ -25,22 +26,18 @@ foundedBy ids own ring = founded station true ids own ring
 -- a station that may resend a token: the ring's first
 abbrev pub remembering : Record
 remembering =
-    record {
-      own = 7;
-      log = freshLog (3 ∷ 7 ∷ []) 4;
-      turn =
-          record {
-            aru = record { 0 = 0 };
-            earlier = record { 0 = 0 };
-            number = record { 0 = 1 };
-            broadcast = 0;
-            stall = 0;
-            waited = 0;
-            size = shortestToken;
-            token = firstBytes ++ replicate (longestToken - shortestToken) 0;
-          };
-      posts = freshPosts;
-    }
+    withParts (fresh (3 ∷ 7 ∷ []) 7 4) (freshLog (3 ∷ 7 ∷ []) 4)
+    (record {
+      aru = record { 0 = 0 };
+      earlier = record { 0 = 0 };
+      number = record { 0 = 1 };
+      broadcast = 0;
+      stall = 0;
+      waited = 0;
+      size = shortestToken;
+      token = firstBytes ++ replicate (longestToken - shortestToken) 0;
+    })
+    freshPosts
 
 -- ---- the table
 
@@ -100,7 +97,7 @@ resending =
 
 -- the sizes that hosts know
 abbrev pub sizes : List Trial
-sizes = row recordSize 3428 ∷ row mostFrames 1472 ∷ row mostDeliveries 2752 ∷ []
+sizes = row recordSize 3429 ∷ row mostFrames 1472 ∷ row mostDeliveries 2752 ∷ []
 
 -- of the other calls
 abbrev pub calling : List Trial

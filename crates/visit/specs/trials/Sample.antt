@@ -11,6 +11,7 @@ use Rattle.frames.specs.Token.{numbered}
 use Rattle.frames.specs.declared.token.Token.{Token}
 use Rattle.record.specs.Held.{placeOf, logWith}
 use Rattle.record.specs.Fresh.{freshHeld, freshTurn, fresh}
+use Rattle.record.specs.Parts.{withParts}
 use Rattle.record.specs.declared.log.Held.{Held}
 use Rattle.record.specs.declared.turn.Turn.{Turn}
 use Rattle.record.specs.declared.Record.{Record}
@@ -55,26 +56,14 @@ heldTo n = record { senders = sendersTo n; services = freshHeld .services; lengt
 
 -- all up to the level held, otherwise fresh but for the turn
 abbrev pub reachedWith : ℕ → Turn → Record
-reachedWith level turn =
-    record {
-      own = 7;
-      log = logWith (station .log) (record { 0 = level }) (record { 0 = 0 }) (record { 0 = 0 }) (heldTo level);
-      turn = turn;
-      posts = station .posts;
-    }
+reachedWith level turn = withParts station (logWith (station .log) (record { 0 = level }) (record { 0 = 0 }) (record { 0 = 0 }) (heldTo level)) turn (station .posts)
 
 abbrev pub reachedTo : ℕ → Record
 reachedTo level = reachedWith level freshTurn
 
 -- all up to n safe and delivered, nothing held, otherwise fresh
 abbrev pub safeTo : ℕ → Record
-safeTo n =
-    record {
-      own = 7;
-      log = logWith (station .log) (record { 0 = n }) (record { 0 = n }) (record { 0 = n }) freshHeld;
-      turn = freshTurn;
-      posts = station .posts;
-    }
+safeTo n = withParts station (logWith (station .log) (record { 0 = n }) (record { 0 = n }) (record { 0 = n }) freshHeld) freshTurn (station .posts)
 
 -- a turn without leave: the aru forwarded last, the last count of broadcasts, the stall count, the own part of the backlog
 abbrev pub turnWaited : ℕ → ℕ → ℕ → ℕ → Turn

@@ -3,6 +3,7 @@ use Prim.Native.Nat.{ℕ}
 use mathlib.Core.List.{List, [], _∷_}
 use Rattle.frames.specs.declared.token.Blocker.the-variants.{Nobody}
 use Rattle.record.specs.Fresh.{freshPosts}
+use Rattle.record.specs.Parts.{withParts}
 use Rattle.record.specs.declared.posts.Posts.{Posts}
 use Rattle.record.specs.declared.Record.{Record}
 use Rattle.visit.specs.Visit.{Visit, allowance}
@@ -15,7 +16,7 @@ waiting n = record { count = n; services = freshPosts .services; lengths = fresh
 
 -- a station where n posts wait, with this own part of the backlog
 abbrev pub busy : ℕ → ℕ → Record
-busy n waited = record { own = 7; log = station .log; turn = turnWaited 0 0 0 waited; posts = waiting n }
+busy n waited = withParts station (station .log) (turnWaited 0 0 0 waited) (waiting n)
 
 -- a token with this round count and backlog
 abbrev pub visits : Record → ℕ → ℕ → Visit

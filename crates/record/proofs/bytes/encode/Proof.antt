@@ -1,7 +1,7 @@
 use mathlib.Core.Path.{ap}
 use native.Mathlib.Omega.{arith}
 use borrow.Author.Needs.{needs}
-use Rattle.record.specs.inner.Head.{recordOn}
+use Rattle.record.specs.inner.Head.{recordShowing}
 use Rattle.record.specs.declared.head.Head.{Head}
 use Rattle.record.proofs.Arrays.{RecordArrays}
 use Rattle.record.proofs.PutLaws.{encoded}
@@ -10,7 +10,7 @@ use Rattle.record.proofs.bytes.encode.Tie as tie
 
 arrays : (c : tie.Start) → RecordArrays (c .args .r)
 arrays c =
-    let fields = c .good .0 .1 .1 .1 in
+    let fields = c .good .0 .1 .1 .1 .1 in
     record {
       log = record { members = (let g = fields .0 in search needs); held = (let g = fields .0 .1 .1 .1 .1 .1 .1 .1 .1 .0 in search needs) };
       token = (let g = fields .1 .0 .1 .1 .1 .1 .1 .0 in search needs);
@@ -29,15 +29,15 @@ put-bytes-requires c κs = omega (arith, arrays (c .before .before .before .befo
 put-bytes-requires-2 : tie.Need-put-bytes-requires-2
 put-bytes-requires-2 c κs = omega (arith, arrays (c .before .before .before .before .before .before .before .before .before .before) .posts .contents, c .before .before .before .before .before .before .before .before .before .before .pre)
 
-put-head-requires : tie.Need-put-head-requires
-put-head-requires c κs = omega (arith, c .before .before .before .before .before .before .before .before .before .before .before .before .before .before .before .pre, c .before .before .before .before .before .before .before .before .before .put-bytes .kept .0, c .before .before .before .before .put-bytes2 .kept .0)
+put-showing-requires : tie.Need-put-showing-requires
+put-showing-requires c κs = omega (arith, c .before .before .before .before .before .before .before .before .before .before .before .before .before .before .before .pre, c .before .before .before .before .before .before .before .before .before .put-bytes .kept .0, c .before .before .before .before .put-bytes2 .kept .0)
 
 returns : tie.Need-returns
 returns c =
     let start = c .before .before .before .before .before .before .before .before .before .before .before .before .before .before .before .before .before .before in
     let r = start .args .r in
-    encoded _ _ _ _ _ _ _ _ (arrays start .log .held .contents) (arrays start .posts .contents) (start .pre) (c .before .before .before .before .before .before .before .before .before .before .before .before .put-bytes .ensures) (c .before .before .before .before .before .before .before .put-bytes2 .ensures)
-    (ap (λ (h : Head). recordOn h (r .log .held .contents) (r .posts .contents)) (c .before .before .before .head-of .ensures)) (c .before .before .put-head .ensures)
+    encoded _ _ _ _ _ _ _ _ _ (arrays start .log .held .contents) (arrays start .posts .contents) (start .pre) (c .before .before .before .before .before .before .before .before .before .before .before .before .put-bytes .ensures) (c .before .before .before .before .before .before .before .put-bytes2 .ensures)
+    (ap (λ (h : Head). recordShowing (r .panel) h (r .log .held .contents) (r .posts .contents)) (c .before .before .before .head-of .ensures)) (c .before .before .put-showing .ensures)
 
 pub encode-spec : {M : Type 1} → statement M
-encode-spec = tie.close (tie.spec slice-aggregate-put-bytes put-bytes-requires slice-aggregate-put-bytes-2 put-bytes-requires-2 (λ c κs. search needs) put-head-requires (λ c. search needs) returns)
+encode-spec = tie.close (tie.spec slice-aggregate-put-bytes put-bytes-requires slice-aggregate-put-bytes-2 put-bytes-requires-2 (λ c κs. search needs) put-showing-requires (λ c. search needs) returns)

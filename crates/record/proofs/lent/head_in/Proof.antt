@@ -9,7 +9,7 @@ returns : tie.Need-returns
 returns c = ap recordHead (c .fresh-head .ensures ∙ sym (lent-none _ (c .before .before .before .if1 .taken)))
 
 returns-2 : tie.Need-returns-2
-returns-2 c = ap recordHead (c .get-head .ensures ∙ sym (lent-of _ (c .before .if1 .left)))
+returns-2 c = c .get-head .ensures ∙ ap recordHead (sym (lent-of _ (c .before .if1 .left)))
 
 pub head-in-spec : {M : Type 1} → statement M
 head-in-spec =

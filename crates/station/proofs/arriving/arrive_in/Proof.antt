@@ -23,12 +23,12 @@ frame-arrived-requires : tie.Need-frame-arrived-requires
 frame-arrived-requires c κs =
     let w = (sym (c .before .before .before .before .is-whole-at .ensures) ∙ not-false _ (c .before .before .before .if2 .left)) in
     let room = both-fit (lent (c .before .before .before .before .before .before .before .before .before .before .before .before .before .before .args .s .now)) (c .before .before .before .before .before .before .before .before .before .before .before .before .before .before .args .frame .now) _ _ (sym (c .before .before .before .before .before .before .before .before .before .arrival-fits .ensures) ∙ not-false _ (c .before .before .before .before .before .before .before .before .if1 .left)) in
-    (head-there _ _ w (own-head _ _ (whole-long _ w) (c .before .before .before .before .before .before .head-in .ensures)), room .0, room .1)
+    (head-there _ _ w (own-head _ _ w (whole-long _ w) (c .before .before .before .before .before .before .head-in .ensures)), room .0, room .1)
 
 returns-3 : tie.Need-returns-3
 returns-3 c =
     let w = (sym (c .before .before .before .before .before .before .before .before .before .before .before .is-whole-at .ensures) ∙ not-false _ (c .before .before .before .before .before .before .before .before .before .before .if2 .left)) in
-    known _ _ _ _ _ _ _ _ _ (over-passes (c .before .before .before .before .before .before .before .before .before .before .before .before .before .before .before .before .before .before .before .before .before .args .s .now) (c .before .before .before .before .before .before .before .before .before .before .before .before .before .before .before .before .before .before .before .before .before .args .frame .now) _ _ _ (own-head _ _ (whole-long _ w) (c .before .before .before .before .before .before .before .before .before .before .before .before .before .head-in .ensures)) (sym (c .before .before .before .before .before .before .before .before .before .before .before .before .before .before .before .before .arrival-fits .ensures) ∙ not-false _ (c .before .before .before .before .before .before .before .before .before .before .before .before .before .before .before .if1 .left)) w) (c .before .before .before .before .before .before .frame-arrived .ensures)
+    known _ _ _ _ _ _ _ _ _ (over-passes (c .before .before .before .before .before .before .before .before .before .before .before .before .before .before .before .before .before .before .before .before .before .args .s .now) (c .before .before .before .before .before .before .before .before .before .before .before .before .before .before .before .before .before .before .before .before .before .args .frame .now) _ _ _ (own-head _ _ w (whole-long _ w) (c .before .before .before .before .before .before .before .before .before .before .before .before .before .head-in .ensures)) (sym (c .before .before .before .before .before .before .before .before .before .before .before .before .before .before .before .before .arrival-fits .ensures) ∙ not-false _ (c .before .before .before .before .before .before .before .before .before .before .before .before .before .before .before .if1 .left)) w) (c .before .before .before .before .before .before .frame-arrived .ensures)
 
 pub arrive-in-spec : {M : Type 1} → statement M
 arrive-in-spec =
