@@ -28,11 +28,21 @@ extern "C" {
 #endif
 
 /* Lengths in bytes. */
-#define TOTEM_STATION_LEN 3428     /* a station's record */
+#define TOTEM_STATION_LEN 3429     /* a station's record */
 #define TOTEM_FRAMES_LEN 1472      /* the least buffer for frames */
 #define TOTEM_DELIVERIES_LEN 2752  /* the least buffer for deliveries */
 #define TOTEM_TOKEN_LEN 32         /* a ring's first token */
 #define TOTEM_MOST_CONTENT 64      /* a post's content */
+
+/*
+ * What a panel reads of a record without a call: the byte at this place, from the record's first one, is the
+ * number of messages that the station holds and has not delivered, 0 to 32. Messages behind one that is
+ * missing count, and so do safe ones that wait, with what is behind them; a message that is delivered and
+ * still held for the others does not. It is right whenever no call is under way at the station: founding
+ * writes 0, and every call that leaves a record leaves the count there; a record with another value is not
+ * whole. Like the rest of the record it is only read, between calls. The place is the same in every version.
+ */
+#define TOTEM_PANEL_AT 2
 
 /* Counts and numbers. */
 #define TOTEM_LEAST_MEMBERS 2          /* of a ring */

@@ -28,7 +28,9 @@ int main(int argc, char **argv)
     status = node_run(&node);
     if (options.count)
         tally_show_rate(&node.tally, options.own);
-    if (options.refusals)
+    if (options.refusals) {
         tally_show(&node.tally, options.own);
+        station_show(&node.station, options.own);
+    }
     return status;
 }

@@ -163,8 +163,10 @@ int node_run(struct node *n)
         if (finished(n, &status))
             break;
         deliveries_flush(&n->deliveries);
-        if (report_asked())
+        if (report_asked()) {
             tally_show(&n->tally, n->options->own);
+            station_show(&n->station, n->options->own);
+        }
         take_datagrams(n, wait_for_datagrams(n, room));
     }
     deliveries_flush(&n->deliveries);

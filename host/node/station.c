@@ -3,7 +3,7 @@
 #include "complain.h"
 #include "tally.h"
 
-enum { WAITING_AT = 2355 }; /* in the record: docs/RECORD.md */
+enum { WAITING_AT = 2356 }; /* in the record: docs/RECORD.md */
 
 void station_found(struct station *s, const struct options *o)
 {
@@ -23,6 +23,12 @@ void station_found(struct station *s, const struct options *o)
 unsigned station_waiting(const struct station *s)
 {
     return s->record[WAITING_AT];
+}
+
+void station_show(const struct station *s, uint16_t own)
+{
+    complain("station %u: posts that wait: %u; messages held and not delivered: %u", own, station_waiting(s),
+             s->record[TOTEM_PANEL_AT]);
 }
 
 totem_answer station_post(struct station *s, const struct post *post)

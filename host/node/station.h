@@ -23,6 +23,9 @@ void station_found(struct station *s, const struct options *o);
 /* how many posts wait for the token */
 unsigned station_waiting(const struct station *s);
 
+/* says on standard error how many posts wait, and how many messages are held and not delivered */
+void station_show(const struct station *s, uint16_t own);
+
 totem_answer station_post(struct station *s, const struct post *post);
 
 totem_answer station_arrive(struct station *s, const uint8_t *frame, size_t size);

@@ -278,4 +278,5 @@ void expect_arrival(struct bytes station, struct bytes frame, size_t frames_len,
         take_message(out, frame);
     else
         accept_token(out, token_of(frame.at));
+    out->record[PANEL] = undelivered(out->record);
 }

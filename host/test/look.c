@@ -40,3 +40,13 @@ bool is_held(const uint8_t *r, uint64_t number)
 
     return safe < number && number <= safe + HELD_PLACES && place_used(r, number);
 }
+
+uint8_t undelivered(const uint8_t *r)
+{
+    uint64_t safe = get(r + SAFE, 4), delivered = get(r + DELIVERED, 4);
+    uint8_t count = 0;
+
+    for (uint64_t n = safe + 1; n <= safe + HELD_PLACES; n++)
+        count += n > delivered && is_held(r, n);
+    return count;
+}

@@ -14,6 +14,9 @@ bool place_used(const uint8_t *record, uint64_t number);
 /* the same, and the number is above the safe mark and at most safe mark + 32 */
 bool is_held(const uint8_t *record, uint64_t number);
 
+/* how many numbers above the delivered mark are held */
+uint8_t undelivered(const uint8_t *record);
+
 /* are these bytes all zero? */
 bool zero(const uint8_t *at, size_t size);
 

@@ -8,6 +8,7 @@
 #include "calls.h"
 #include "chance.h"
 #include "expected.h"
+#include "look.h"
 #include "random_station.h"
 #include "records.h"
 #include "samples.h"
@@ -36,6 +37,21 @@ static void report(const char *name, bool whole_too)
     seen_whole = seen_broken = 0;
 }
 
+/* the record with a byte changed; where that changes the count, also with the panel's byte following */
+static void try_changed(const char *name, uint8_t *record, unsigned at)
+{
+    uint16_t service = chance(2);
+    struct bytes content = pattern(chance(CONTENT_ROOM + 1));
+    uint8_t panel = record[PANEL];
+
+    try_and_count(name, record, service, content, FRAMES_ROOM);
+    if (at == PANEL || panel == undelivered(record))
+        return;
+    record[PANEL] = undelivered(record);
+    try_and_count(name, record, service, content, FRAMES_ROOM);
+    record[PANEL] = panel;
+}
+
 /* every byte of the rich record: each bit turned, and 0, 255 and a random value in its place */
 static void single_bytes(bool brief)
 {
@@ -52,11 +68,8 @@ static void single_bytes(bool brief)
                 record[at] ^= (uint8_t)(1u << way);
             else
                 record[at] = way == 8 ? 0 : way == 9 ? 255 : (uint8_t)chance(256);
-            if (record[at] != was) {
-                uint16_t service = chance(2);
-
-                try_and_count(name, record, service, pattern(chance(CONTENT_ROOM + 1)), FRAMES_ROOM);
-            }
+            if (record[at] != was)
+                try_changed(name, record, at);
             record[at] = was;
         }
     report(name, true);

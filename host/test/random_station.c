@@ -1,6 +1,7 @@
 #include "random_station.h"
 
 #include "chance.h"
+#include "look.h"
 #include "words.h"
 
 static struct content random_content(void)
@@ -85,7 +86,7 @@ void change_a_field(uint8_t record[RECORD_END])
     static const unsigned words[][2] = {
         {OWN, 2},    {RING, 4},    {MEMBER_COUNT, 1}, {LEVEL, 4}, {SAFE, 4},       {DELIVERED, 4},
         {ARU, 4},    {EARLIER, 4}, {TOKEN_NUMBER, 4}, {STALL, 1}, {TOKEN_SIZE, 1}, {POST_COUNT, 1},
-        {BROADCAST, 1}, {OWN_PART, 1}};
+        {BROADCAST, 1}, {OWN_PART, 1}, {PANEL, 1}};
     static const unsigned token_words[][2] = {
         {T_LENGTH, 2}, {T_KIND, 2}, {T_RING, 4},    {T_REPRESENTATIVE, 2}, {T_ADDRESSEE, 2}, {T_NUMBER, 4},
         {T_HIGHEST, 4}, {T_ARU, 4}, {T_BLOCKER, 2}, {T_ROUND, 2},          {T_BACKLOG, 2},   {T_COUNT, 2}};
@@ -126,4 +127,6 @@ void change_a_field(uint8_t record[RECORD_END])
         width = words[pick][1];
     }
     put(record + at, width, near_edge(get(record + at, width)));
+    if (at != PANEL && chance(2))
+        record[PANEL] = undelivered(record);
 }

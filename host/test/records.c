@@ -69,12 +69,22 @@ void make_edits(const struct edit edits[MOST_EDITS], uint8_t *bytes)
             memset(bytes + e->at, (int)e->value, e->width);
 }
 
+static bool edits_panel(const struct edit edits[MOST_EDITS])
+{
+    for (const struct edit *e = edits; e < edits + MOST_EDITS && e->width != 0; e++)
+        if (e->at == PANEL)
+            return true;
+    return false;
+}
+
 static void make(const struct record_case *c, uint8_t out[RECORD_END])
 {
     struct station s = sample(c->from);
 
     station_bytes(&s, out);
     make_edits(c->edits, out);
+    if (!edits_panel(c->edits))
+        out[PANEL] = undelivered(out);
 }
 
 void try_records(const struct record_case *cases, size_t count)

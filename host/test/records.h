@@ -30,6 +30,7 @@ enum { MOST_EDITS = 6 };
 
 void make_edits(const struct edit edits[MOST_EDITS], uint8_t *bytes);
 
+/* without an edit of the panel's byte, that is the count again after the edits */
 struct record_case {
     const char *name;
     enum sample from;

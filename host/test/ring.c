@@ -1,8 +1,8 @@
 /*
  * A ring of three stations in one process, as a host runs it. The cable loses, repeats and delays frames by
  * chance. At every call: delivery lists are alike or one begins the other, a safe message delivered anywhere
- * was received everywhere before, and the record is whole. Once nothing is lost any more, the lists become
- * equal.
+ * was received everywhere before, the record is whole and its panel's byte right. Once nothing is lost any
+ * more, the lists become equal.
  */
 #include <stdio.h>
 #include <string.h>
@@ -71,6 +71,8 @@ static void record_is_whole(unsigned at)
     check(totem_post(stations[at].record, TOTEM_STATION_LEN, TOTEM_AGREED, too_long, sizeof too_long).refusal
               == TOTEM_LONG_CONTENT,
           "the record of station %u is not whole", at);
+    check(stations[at].record[TOTEM_PANEL_AT] == undelivered(stations[at].record),
+          "the panel of station %u reads %u", at, stations[at].record[TOTEM_PANEL_AT]);
 }
 
 /* the new part of a list agrees with all others as far as they go; so do all lists, then */
@@ -207,6 +209,7 @@ static void post_some(unsigned at, unsigned most)
         chance_bytes(content, length);
         a = totem_post(stations[at].record, TOTEM_STATION_LEN, service, content, length);
         check(a.outcome == TOTEM_POSTED || a.refusal == TOTEM_POSTS_FULL, "posting: refusal %u", a.refusal);
+        record_is_whole(at);
     }
 }
 

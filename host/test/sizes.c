@@ -11,7 +11,8 @@
 static void numbers(void)
 {
     tally_case("the header's numbers");
-    check(TOTEM_STATION_LEN == 3428 && RECORD_END == 3428, "the record's length");
+    check(TOTEM_STATION_LEN == 3429 && RECORD_END == 3429, "the record's length");
+    check(TOTEM_PANEL_AT == 2 && PANEL == 2, "the panel's byte");
     check(TOTEM_FRAMES_LEN == 1472 && FRAMES_ROOM == 1472, "the buffer for frames: 16 messages and a token");
     check(TOTEM_DELIVERIES_LEN == 2752 && DELIVERIES_ROOM == 2752,
           "the buffer for deliveries: 32 messages");
@@ -47,6 +48,7 @@ static void offsets(void)
     tally_case("the table's offsets");
     station_bytes(&s, r);
     check(get(r + OWN, 2) == s.own && get(r + RING, 4) == s.ring, "own id, ring");
+    check(r[PANEL] == 6, "43, 44, 45, 47, 50 and 72 on the panel");
     check(r[MEMBER_COUNT] == 4 && get(r + MEMBER(0), 2) == 3 && get(r + MEMBER(3), 2) == 12, "members");
     check(get(r + LEVEL, 4) == 45 && get(r + SAFE, 4) == 40 && get(r + DELIVERED, 4) == 42, "marks");
     for (unsigned i = 0; i < s.held_count; i++) {

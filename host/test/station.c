@@ -122,6 +122,15 @@ static struct held at_place(const struct station *s, unsigned place)
     return none;
 }
 
+static unsigned undelivered_of(const struct station *s)
+{
+    unsigned count = 0;
+
+    for (unsigned i = 0; i < s->held_count; i++)
+        count += s->held[i].number > s->delivered;
+    return count;
+}
+
 void station_bytes(const struct station *s, uint8_t out[RECORD_END])
 {
     struct held places[HELD_PLACES];
@@ -131,6 +140,7 @@ void station_bytes(const struct station *s, uint8_t out[RECORD_END])
     for (unsigned i = 0; i < HELD_PLACES; i++)
         places[i] = at_place(s, i);
     at = word(at, 2, s->own);
+    at = word(at, 1, undelivered_of(s));
     at = word(at, 4, s->ring);
     at = word(at, 1, s->member_count);
     for (unsigned i = 0; i < MEMBER_PLACES; i++)

@@ -31,6 +31,7 @@ int main(int count, char **arguments)
     test_whole();
     test_not_whole();
     test_use();
+    test_panel();
     test_ring(brief);
     test_random(brief);
     test_random_arrivals(brief);

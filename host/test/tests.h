@@ -16,6 +16,7 @@ void test_resending(void);
 void test_whole(void);
 void test_not_whole(void);
 void test_use(void);
+void test_panel(void);
 void test_ring(bool brief);
 void test_random(bool brief);
 void test_random_arrivals(bool brief);

@@ -111,5 +111,6 @@ unsigned broken_clauses(const uint8_t *r, size_t size)
     broken |= held_to_level(r) ? 0 : C_HELD;
     broken |= is_held(r, (uint64_t)level + 1) ? C_NEXT : 0;
     broken |= unused_zero(r) ? 0 : C_UNUSED;
+    broken |= r[PANEL] == undelivered(r) ? 0 : C_PANEL;
     return broken;
 }

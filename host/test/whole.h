@@ -16,7 +16,8 @@ enum clause {
     C_ARUS = 64,     /* both aru <= level */
     C_HELD = 128,    /* numbers from safe mark + 1 to level are held */
     C_NEXT = 256,    /* level + 1 isn't */
-    C_UNUSED = 512   /* a part not in use is zero */
+    C_UNUSED = 512,  /* a part not in use is zero */
+    C_PANEL = 1024   /* the panel's byte is the count of what is held and undelivered */
 };
 
 /* the clauses that do not hold, added up; WHOLE where all do */

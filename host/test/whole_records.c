@@ -43,6 +43,12 @@ static const struct record_case cases[] = {
      {{SAFE, 4, LIMIT - 2}, {DELIVERED, 4, LIMIT - 2}, {LEVEL, 4, LIMIT - 2}, {SENDER(LIMIT), 2, 3}}},
     {"2,000,000,000 held at the level", LAST, WHOLE,
      {{SAFE, 4, LIMIT - 1}, {DELIVERED, 4, LIMIT - 1}, {SENDER(LIMIT), 2, 3}}},
+    {"panel 0, 32 held and delivered", FULL, WHOLE, {{DELIVERED, 4, 132}, {PANEL, 1, 0}}},
+    {"panel 32, 32 held and none delivered", FULL, WHOLE, {{DELIVERED, 4, 100}, {PANEL, 1, HELD_PLACES}}},
+    {"panel 31, one of 32 delivered", FULL, WHOLE, {{DELIVERED, 4, 101}, {PANEL, 1, 31}}},
+    {"panel 1, behind a gap", PLAIN, WHOLE, {{SENDER(2), 2, 3}, {PANEL, 1, 1}}},
+    {"panel 3, all of them behind a gap", RICH, WHOLE, {{DELIVERED, 4, 45}, {PANEL, 1, 3}}},
+    {"panel 9, one more held", RICH, WHOLE, {{DELIVERED, 4, 40}, {SENDER(52), 2, 3}, {PANEL, 1, 9}}},
     {"a content of zeros", RICH, WHOLE, {{CONTENT(41), CONTENT_ROOM, 0}}},
     {"a length 0 without content", RICH, WHOLE, {{LENGTH(43), 1, 0}, {CONTENT(43), 1, 0}}},
 

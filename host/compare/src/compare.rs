@@ -4,8 +4,9 @@ use std::ops::Range;
 
 use crate::arena::{Arena, Part};
 use crate::call::{Ask, Call};
-use crate::layout::{get2, DELIVERIES_LEN, FRAMES_LEN, MOST_TOKEN, OWN, RECORD_LEN, TOKEN_LEN};
+use crate::layout::{get2, DELIVERIES_LEN, FRAMES_LEN, MOST_TOKEN, OWN, PANEL, RECORD_LEN, TOKEN_LEN};
 use crate::sides::{Answer, ACCEPTED, AHEAD, FOUNDED, HAD, KEPT, POSTED, RESENT};
+use crate::whole;
 
 #[derive(Clone, Copy, PartialEq, Eq, Debug)]
 pub enum Kind {
@@ -13,6 +14,8 @@ pub enum Kind {
     Answer(usize),
     /// This side altered a byte that the call must not alter.
     Altered(usize, Part),
+    /// This side left another number in the panel's byte than are held and undelivered.
+    Panel(usize),
     /// The two answers differ.
     Answers,
     /// The answers are alike, the bytes left behind are not.
@@ -39,6 +42,9 @@ pub fn compare(arena: &mut Arena, call: &Call, record: &[u8]) -> Result<Answer, 
             let part = arena.locate(at).0;
             return Err(difference(Kind::Altered(side, part), Some(at)));
         }
+        if answers[side].refusal == 0 && !is_panel_right(arena.after(side, Part::Record)) {
+            return Err(difference(Kind::Panel(side), Some(arena.range(Part::Record).start + PANEL)));
+        }
     }
     if answers[0] != answers[1] {
         return Err(difference(Kind::Answers, arena.unequal()));
@@ -47,6 +53,11 @@ pub fn compare(arena: &mut Arena, call: &Call, record: &[u8]) -> Result<Answer, 
         Some(at) => Err(difference(Kind::Bytes(arena.locate(at).0), Some(at))),
         None => Ok(answers[0]),
     }
+}
+
+/// Whether a panel reads what is held and undelivered.
+fn is_panel_right(record: &[u8]) -> bool {
+    record.len() < RECORD_LEN || record[PANEL] == whole::undelivered(record)
 }
 
 /// Whether the header allows this answer to this call at all.

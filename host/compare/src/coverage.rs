@@ -42,9 +42,14 @@ pub enum Event {
     BacklogCut,
     BacklogRefused,
     OwnPartRefused,
+    PanelGap,
+    PanelSafe,
+    PanelFalls,
+    PanelLess,
+    PanelMore,
 }
 
-const EVENTS: [&str; 31] = [
+const EVENTS: [&str; 36] = [
     "frames lost",
     "frames repeated",
     "frames delayed",
@@ -76,6 +81,11 @@ const EVENTS: [&str; 31] = [
     "backlog cut at 128",
     "backlog 129 refused with 12",
     "own part 17 refused with 2",
+    "all on the panel behind a gap",
+    "all on the panel up to the level",
+    "fewer on the panel by a message that isn't kept",
+    "panel one less refused with 2",
+    "panel one more refused with 2",
 ];
 
 pub struct Coverage {
@@ -87,10 +97,14 @@ pub struct Coverage {
     damaged: Seen,
     backlogs: Seen,
     own_parts: Seen,
+    panel_kept: Seen,
+    panel_accepted: Seen,
+    panel_refused: Seen,
 }
 
 impl Coverage {
     pub fn new() -> Coverage {
+        let counts = HELD_PLACES as usize + 1;
         Coverage {
             refusals: [[0; 20]; 4],
             outcomes: [0; 8],
@@ -99,6 +113,9 @@ impl Coverage {
             damaged: Seen::none("bytes of the record damaged one by one", RECORD_LEN),
             backlogs: Seen::none("backlogs of accepted tokens", usize::from(MOST_BACKLOG) + 1),
             own_parts: Seen::none("own parts where a token was accepted", MOST_POSTS + 1),
+            panel_kept: Seen::none("counts on the panel after a message kept", counts),
+            panel_accepted: Seen::none("counts on the panel after a token accepted", counts),
+            panel_refused: Seen::none("bytes on the panel refused with 2", 256),
         }
     }
 
@@ -112,6 +129,13 @@ impl Coverage {
 
     pub fn byte_damaged(&mut self, at: usize) {
         self.damaged.note(at);
+    }
+
+    /// All of the record but the panel's byte is whole.
+    pub fn panel_refused(&mut self, count: u8, panel: u8) {
+        self.panel_refused.note(panel.into());
+        self.event_if(Event::PanelLess, panel.checked_add(1) == Some(count));
+        self.event_if(Event::PanelMore, panel == count + 1);
     }
 
     pub fn note(&mut self, call: &Call, answer: Answer, arena: &Arena) {
@@ -129,6 +153,23 @@ impl Coverage {
         if answer.deliveries > 0 {
             self.delivered(answer, arena);
         }
+        if (KEPT..=ACCEPTED).contains(&answer.outcome) {
+            self.panel(answer, arena);
+        }
+    }
+
+    /// What an arrival leaves on the panel.
+    fn panel(&mut self, answer: Answer, arena: &Arena) {
+        let (before, record) = (arena.before(Part::Record), arena.after(0, Part::Record));
+        let count = record[PANEL];
+        let up_to_level = get4(record, LEVEL) - get4(record, DELIVERED);
+        match answer.outcome {
+            KEPT => self.panel_kept.note(count.into()),
+            ACCEPTED => self.panel_accepted.note(count.into()),
+            _ => self.event_if(Event::PanelFalls, count < before[PANEL]),
+        }
+        self.event_if(Event::PanelGap, count > 0 && up_to_level == 0);
+        self.event_if(Event::PanelSafe, count > 0 && up_to_level == count.into());
     }
 
     fn kept(&mut self, call: &Call) {
@@ -187,10 +228,20 @@ impl Coverage {
         self.damaged.add(&other.damaged);
         self.backlogs.add(&other.backlogs);
         self.own_parts.add(&other.own_parts);
+        self.panel_kept.add(&other.panel_kept);
+        self.panel_accepted.add(&other.panel_accepted);
+        self.panel_refused.add(&other.panel_refused);
     }
 
-    fn ranges(&self) -> [&Seen; 3] {
-        [&self.damaged, &self.backlogs, &self.own_parts]
+    fn ranges(&self) -> [&Seen; 6] {
+        [
+            &self.damaged,
+            &self.backlogs,
+            &self.own_parts,
+            &self.panel_kept,
+            &self.panel_accepted,
+            &self.panel_refused,
+        ]
     }
 
     /// Each item that has to come up, with its count.

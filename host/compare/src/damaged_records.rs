@@ -17,6 +17,9 @@ pub fn run(tester: &mut Tester, turn: &mut usize) -> Outcome<()> {
     for _ in 0..16 {
         let mut record = whole.clone();
         record[*turn] = other_byte(&mut tester.chance, record[*turn]);
+        if *turn != PANEL && tester.chance.one_in(2) {
+            whole::put_panel(&mut record);
+        }
         tester.coverage.byte_damaged(*turn);
         *turn = (*turn + 1) % RECORD_LEN;
         every_call(tester, &whole, record, RECORD_LEN)?;
@@ -26,9 +29,14 @@ pub fn run(tester: &mut Tester, turn: &mut usize) -> Outcome<()> {
         for _ in 0..tester.chance.pick(&[1, 1, 1, 2, 4]) {
             damage(&mut tester.chance, &whole, &mut record);
         }
+        // For the most part nothing but the damage is wrong.
+        if !tester.chance.one_in(4) {
+            whole::put_panel(&mut record);
+        }
         every_call(tester, &whole, record, RECORD_LEN)?;
     }
     own_part_alone(tester, &whole)?;
+    panel_alone(tester, &whole)?;
     let len = choices::other_record_len(&mut tester.chance);
     every_call(tester, &whole, whole.clone(), len)?;
     Ok(())
@@ -42,6 +50,22 @@ fn own_part_alone(tester: &mut Tester, whole: &[u8]) -> Outcome<()> {
     record[OWN_PART] = own_part;
     let not_whole = every_call(tester, whole, record, RECORD_LEN)?;
     tester.coverage.event_if(Event::OwnPartRefused, own_part == least && not_whole == 3);
+    Ok(())
+}
+
+/// Records that are whole but for the panel's byte: one less or one more than the count, or any other value.
+fn panel_alone(tester: &mut Tester, whole: &[u8]) -> Outcome<()> {
+    let count = whole[PANEL];
+    let near = tester.chance.pick(&[count.wrapping_sub(1), count + 1]);
+    for panel in [near, tester.chance.byte(), tester.chance.byte()] {
+        if panel != count {
+            let mut record = whole.to_vec();
+            record[PANEL] = panel;
+            if every_call(tester, whole, record, RECORD_LEN)? == 3 {
+                tester.coverage.panel_refused(count, panel);
+            }
+        }
+    }
     Ok(())
 }
 

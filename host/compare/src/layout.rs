@@ -3,7 +3,7 @@
 
 use std::ops::Range;
 
-pub const RECORD_LEN: usize = 3428;
+pub const RECORD_LEN: usize = 3429;
 pub const FRAMES_LEN: usize = 1472;
 pub const DELIVERIES_LEN: usize = 2752;
 pub const TOKEN_LEN: usize = 32;
@@ -18,31 +18,33 @@ pub const MOST_BACKLOG: u16 = 128;
 pub const MOST_NUMBER: u32 = 2_000_000_000;
 
 pub const OWN: usize = 0;
-pub const RING: usize = 2;
-pub const MEMBER_COUNT: usize = 6;
-pub const MEMBERS: usize = 7;
-pub const LEVEL: usize = 23;
-pub const SAFE: usize = 27;
-pub const DELIVERED: usize = 31;
-pub const SENDERS: usize = 35;
-pub const SERVICES: usize = 99;
-pub const LENGTHS: usize = 163;
-pub const CONTENTS: usize = 195;
-pub const ARU: usize = 2243;
-pub const EARLIER_ARU: usize = 2247;
-pub const TOKEN_NUMBER: usize = 2251;
-pub const BROADCAST: usize = 2255;
-pub const STALL: usize = 2256;
-pub const OWN_PART: usize = 2257;
-pub const TOKEN_SIZE: usize = 2258;
-pub const TOKEN: usize = 2259;
-pub const POST_COUNT: usize = 2355;
-pub const POST_SERVICES: usize = 2356;
-pub const POST_LENGTHS: usize = 2388;
-pub const POST_CONTENTS: usize = 2404;
+pub const PANEL: usize = 2;
+pub const RING: usize = 3;
+pub const MEMBER_COUNT: usize = 7;
+pub const MEMBERS: usize = 8;
+pub const LEVEL: usize = 24;
+pub const SAFE: usize = 28;
+pub const DELIVERED: usize = 32;
+pub const SENDERS: usize = 36;
+pub const SERVICES: usize = 100;
+pub const LENGTHS: usize = 164;
+pub const CONTENTS: usize = 196;
+pub const ARU: usize = 2244;
+pub const EARLIER_ARU: usize = 2248;
+pub const TOKEN_NUMBER: usize = 2252;
+pub const BROADCAST: usize = 2256;
+pub const STALL: usize = 2257;
+pub const OWN_PART: usize = 2258;
+pub const TOKEN_SIZE: usize = 2259;
+pub const TOKEN: usize = 2260;
+pub const POST_COUNT: usize = 2356;
+pub const POST_SERVICES: usize = 2357;
+pub const POST_LENGTHS: usize = 2389;
+pub const POST_CONTENTS: usize = 2405;
 
-const OFFSETS: [usize; 24] = [
+const OFFSETS: [usize; 25] = [
     OWN,
+    PANEL,
     RING,
     MEMBER_COUNT,
     MEMBERS,

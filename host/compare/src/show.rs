@@ -93,6 +93,9 @@ fn kind_line(kind: Kind) -> String {
             SIDES[side].name,
             part_name(part)
         ),
+        Kind::Panel(side) => {
+            format!("the panel's byte that the {} left is not the count", SIDES[side].name)
+        }
         Kind::Answers => "the answers differ".to_string(),
         Kind::Bytes(part) => format!("the bytes left behind differ, first in: {}", part_name(part)),
     }

@@ -2,7 +2,9 @@
 
 use crate::call::{Ask, Call};
 use crate::frames::{is_token, put_length, BACKLOG, CONTENT, REQUESTS, REQUEST_COUNT, SERVICE};
-use crate::layout::{get2, put2, spots, HELD_PLACES, MOST_REQUESTS, POST_COUNT};
+use crate::layout::{
+    get2, get4, put2, spots, DELIVERED, HELD_PLACES, MOST_REQUESTS, PANEL, POST_COUNT, SAFE,
+};
 use crate::tester::Case;
 use crate::whole;
 
@@ -30,14 +32,21 @@ fn simpler_records(record: &[u8]) -> Vec<Vec<u8>> {
     };
     with(&|record| record[POST_COUNT..].fill(0));
     with(&|record| whole::put_remembered(record, &[]));
-    for number in 0..HELD_PLACES {
-        with(&|record| whole::let_go(record, number));
+    for place in 1..=HELD_PLACES {
+        with(&|record| without_message(record, get4(record, SAFE).wrapping_add(place)));
     }
     for spot in spots() {
         with(&|record| record[spot.bytes.clone()].fill(0));
     }
     records.retain(|other| other != record);
     records
+}
+
+/// Lets go of a message; the panel's byte loses it, if it counted.
+fn without_message(record: &mut [u8], number: u32) {
+    let counted = whole::is_held(record, number) && number > get4(record, DELIVERED);
+    whole::let_go(record, number);
+    record[PANEL] = record[PANEL].saturating_sub(counted.into());
 }
 
 fn simpler_calls(call: &Call) -> Vec<Call> {

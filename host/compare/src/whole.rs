@@ -47,6 +47,19 @@ pub fn greatest(record: &[u8]) -> u32 {
     get4(record, LEVEL).max(held.unwrap_or(0))
 }
 
+/// How many messages are held and undelivered.
+pub fn undelivered(record: &[u8]) -> u8 {
+    let (safe, delivered) = (u64::from(get4(record, SAFE)), u64::from(get4(record, DELIVERED)));
+    let held = |number: &u64| is_held(record, (*number % u64::from(HELD_PLACES)) as u32);
+    let above = (safe + 1..=safe + u64::from(HELD_PLACES)).filter(|number| *number > delivered);
+    above.filter(held).count() as u8
+}
+
+/// Puts that count where a panel reads it.
+pub fn put_panel(record: &mut [u8]) {
+    record[PANEL] = undelivered(record);
+}
+
 pub fn hold(record: &mut [u8], number: u32, sender: u16, service: u16, content: &[u8]) {
     let place = place(number);
     put2(record, SENDERS + 2 * place, sender);
@@ -107,6 +120,7 @@ pub fn build(chance: &mut Chance) -> Vec<u8> {
         put_post(chance, &mut record, place, &taste);
     }
     record[POST_COUNT] = posts as u8;
+    put_panel(&mut record);
     record
 }
 

@@ -1,9 +1,11 @@
 """A ring of two in which this script is station 7: what station 3 puts on the cable, and when again."""
 
+import signal
 import socket
 import struct
 import time
 
+from .lines import until
 from .nodes import Station, free_ports, member_flags
 from .tally import check, equal
 
@@ -90,6 +92,24 @@ def share_of_a_visit():
     second = frames(peer.receive(5))
     equal([f[22:] for f in second[:-1]], [b"reading %d" % i for i in range(4)], "four messages")
     equal(struct.unpack_from("<H", second[-1], BACKLOG_AT)[0], 92, "the backlog that goes on")
+    peer.stop()
+
+
+def shows(station, count):
+    """Asked now, it says that so many messages are held and not delivered."""
+    station.process.send_signal(signal.SIGUSR1)
+    time.sleep(0.01)
+    said = [line for line in station.errors().splitlines() if "held and not delivered" in line]
+    return bool(said) and said[-1].endswith(f": {count}")
+
+
+def held_behind_a_gap():
+    """Message 2 has come, message 1 has not: one is held and not delivered."""
+    peer = Peer()
+    peer.receive(5)
+    for number, count in ((2, 1), (1, 0)):
+        peer.send(message(number))
+        until(lambda count=count: shows(peer.station, count), f"{count} held and not delivered")
     peer.stop()
 
 
@@ -200,6 +220,7 @@ def held_token():
 def run_all():
     one_datagram_a_visit()
     share_of_a_visit()
+    held_behind_a_gap()
     resent_while_quiet()
     copy_after_long_quiet()
     repeats_are_no_life()

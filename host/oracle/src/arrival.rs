@@ -28,13 +28,15 @@ fn try_arrive(
     let frame = frame::read(frame)?;
     record.ring().ask(&frame)?;
     let mut delivered = Output::new(deliveries);
-    match frame {
-        Frame::Message(message) => Ok(message::receive(&mut record, &message, &mut delivered)),
+    let answer = match frame {
+        Frame::Message(message) => message::receive(&mut record, &message, &mut delivered),
         Frame::Token(token) => {
             ask_token(&record, &token)?;
-            Ok(visit::accept(&mut record, token, Output::new(frames), delivered))
+            visit::accept(&mut record, token, Output::new(frames), delivered)
         }
-    }
+    };
+    record.show_undelivered();
+    Ok(answer)
 }
 
 /// Questions 15 to 18.

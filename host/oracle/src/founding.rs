@@ -28,7 +28,7 @@ fn try_found(
     Ok(Answer { frames: cable.count(), ..Answer::of(Outcome::Founded) })
 }
 
-/// All marks and counts 0, nothing held or waiting, no leave to resend.
+/// All marks and counts 0, the panel's too, nothing held or waiting, no leave to resend.
 fn write_fresh(record: &mut [u8; LEN], ring: &Ring) {
     record.fill(0);
     put_u16(record, OWN, ring.own);

@@ -48,6 +48,11 @@ impl Held {
         self.safe + self.bits.trailing_ones()
     }
 
+    /// How many numbers above this one are held; it is at least the safe mark.
+    pub fn count_above(&self, number: u32) -> u8 {
+        self.bits.checked_shr(number - self.safe).unwrap_or(0).count_ones() as u8
+    }
+
     /// The highest number held, or the safe mark.
     pub fn highest(&self) -> u32 {
         self.safe + u32::BITS - self.bits.leading_zeros()
@@ -70,6 +75,18 @@ mod tests {
         assert_eq!((held.level(), held.highest()), (72, 102));
         let none = Held::new(70, 0);
         assert_eq!((none.level(), none.highest()), (70, 70));
+    }
+
+    #[test]
+    fn the_count_above_a_number_leaves_out_what_is_at_or_below_it() {
+        let held = Held::new(70, 1 << 7 | 1 << 8 | 1 << 31 | 1 << 0 | 1 << 6);
+        let counts = [70, 71, 72, 73, 95, 96, 101, 102].map(|number| held.count_above(number));
+        assert_eq!(counts, [5, 4, 3, 3, 2, 1, 1, 0]);
+        let all = Held::new(0, u32::MAX);
+        for number in 0..=32 {
+            assert_eq!(u32::from(all.count_above(number)), 32 - number);
+        }
+        assert_eq!(all.count_above(2_000_000_000), 0);
     }
 
     #[test]

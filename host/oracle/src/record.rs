@@ -105,6 +105,12 @@ impl<B: DerefMut<Target = [u8; LEN]>> Record<B> {
         put_u32(&mut *self.bytes, DELIVERED, number);
     }
 
+    /// The panel's byte: how many messages are held and undelivered. Every call that changes what is held or
+    /// delivered ends with it.
+    pub fn show_undelivered(&mut self) {
+        self.bytes[PANEL] = self.held.count_above(self.delivered());
+    }
+
     pub fn set_stall(&mut self, count: u8) {
         self.bytes[STALL] = count;
     }

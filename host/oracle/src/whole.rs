@@ -41,7 +41,8 @@ fn read_held(bytes: &[u8; LEN], ring: &Ring) -> Option<Held> {
 }
 
 /// The marks and numbers are in range and in order, and the level fits what is held: no number held is
-/// above the range, and so neither is a mark.
+/// above the range, and so neither is a mark. The panel's byte is the count of what is held above the
+/// delivered mark.
 fn are_marks(bytes: &[u8; LEN], held: &Held) -> bool {
     let level = u32_at(bytes, LEVEL);
     let delivered = u32_at(bytes, DELIVERED);
@@ -49,6 +50,7 @@ fn are_marks(bytes: &[u8; LEN], held: &Held) -> bool {
         && delivered <= level
         && level == held.level()
         && held.highest() <= MOST_NUMBER
+        && bytes[PANEL] == held.count_above(delivered)
         && u32_at(bytes, ARU) <= level
         && u32_at(bytes, ARU_BEFORE) <= level
         && u32_at(bytes, TOKEN_NUMBER) <= MOST_NUMBER

@@ -4,6 +4,7 @@ mod any_bytes;
 mod backlog;
 mod door;
 mod messages;
+mod panel;
 mod reader;
 mod ring;
 mod support;

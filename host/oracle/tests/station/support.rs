@@ -1,5 +1,7 @@
 //! Stations and frames for the tests. Every call made through here also checks what holds of all calls:
-//! a refusal alters no byte and has no counts, and bytes past a count are unaltered.
+//! a refusal alters no byte and has no counts, bytes past a count are unaltered, and what is not refused
+//! leaves the panel's byte equal to the count. A field that is changed through here takes that byte with it,
+//! so that a test changes what it is about; who writes to `bytes` does not.
 
 use oracle::layout::*;
 use oracle::{arrive, found, post, resend, Answer, Refusal};
@@ -78,10 +80,27 @@ impl Station {
 
     pub fn set_u16(&mut self, at: usize, word: u16) {
         self.bytes[at..at + 2].copy_from_slice(&word.to_le_bytes());
+        self.count();
     }
 
     pub fn set_u32(&mut self, at: usize, word: u32) {
         self.bytes[at..at + 4].copy_from_slice(&word.to_le_bytes());
+        self.count();
+    }
+
+    /// The messages held and undelivered, counted number by number.
+    pub fn undelivered(&self) -> u8 {
+        let (safe, delivered) = (u64::from(self.u32(SAFE)), u64::from(self.u32(DELIVERED)));
+        let held = |number: &u64| {
+            let place = HELD_SENDERS + 2 * (*number as usize % 32);
+            self.bytes[place..place + 2] != [0, 0]
+        };
+        (safe + 1..=safe + 32).filter(held).filter(|number| *number > delivered).count() as u8
+    }
+
+    /// Puts that count into the panel's byte.
+    pub fn count(&mut self) {
+        self.bytes[PANEL] = self.undelivered();
     }
 
     pub fn u32(&self, at: usize) -> u32 {
@@ -101,7 +120,7 @@ impl Station {
         let before = self.bytes.clone();
         let answer = post(&mut self.bytes, service, content);
         assert_eq!((answer.frames, answer.deliveries, answer.deaf), (0, 0, 0));
-        self.check_refused(&answer, &before);
+        self.check(&answer, &before);
         answer
     }
 
@@ -110,7 +129,7 @@ impl Station {
         let mut frames = vec![FILL; 1472];
         let mut deliveries = vec![FILL; 2752];
         let answer = arrive(&mut self.bytes, frame, &mut frames, &mut deliveries);
-        self.check_refused(&answer, &before);
+        self.check(&answer, &before);
         Reply {
             answer,
             frames: split(frames, answer.frames),
@@ -121,7 +140,7 @@ impl Station {
     pub fn resend(&self) -> Reply {
         let mut frames = vec![FILL; 1472];
         let answer = resend(&self.bytes, &mut frames);
-        self.check_refused(&answer, &self.bytes);
+        self.check(&answer, &self.bytes);
         Reply { answer, frames: split(frames, answer.frames), deliveries: Vec::new() }
     }
 
@@ -130,8 +149,10 @@ impl Station {
         self.resend().answer.refusal != Refusal::NotWhole as u16
     }
 
-    fn check_refused(&self, answer: &Answer, before: &[u8]) {
-        if answer.refusal != 0 {
+    fn check(&self, answer: &Answer, before: &[u8]) {
+        if answer.refusal == 0 {
+            assert_eq!(self.bytes[PANEL], self.undelivered(), "the panel's byte, outcome {}", answer.outcome);
+        } else {
             let rest = (answer.outcome, answer.frames, answer.deliveries, answer.deaf);
             assert_eq!(rest, (0, 0, 0, 0));
             assert_eq!(self.bytes, before, "refusal {} altered the record", answer.refusal);

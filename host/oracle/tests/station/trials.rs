@@ -14,8 +14,8 @@ fn the_first_token() {
 #[test]
 fn the_fresh_record() {
     let (station, _) = Station::new(&[3, 9, 0x0107], 9, 0x0A0B_0C0D);
-    let mut expected = vec![9, 0, 0x0D, 0x0C, 0x0B, 0x0A, 3, 3, 0, 9, 0, 7, 1];
-    expected.resize(3428, 0);
+    let mut expected = vec![9, 0, 0, 0x0D, 0x0C, 0x0B, 0x0A, 3, 3, 0, 9, 0, 7, 1];
+    expected.resize(3429, 0);
     assert_same(&station.bytes, &expected);
 }
 
