@@ -43,6 +43,14 @@ by-place safe asked question same = both-ways _ _ there back
 pub before-place : (safe j : ℕ) → j < mostHeld → beforeIn safe (placeOf (suc safe + j)) ≡ j
 before-place safe j h = omega arith
 
+-- such a number is past another mark, the level or the delivered one, where as many come before it as lie between the two
+pub past-mark : (safe mark j : ℕ) → leb (mark - safe) j ≡ ltb mark (suc safe + j)
+past-mark safe mark j =
+    elim (decLt j (mark - safe)) [
+      | yes h ↦ rw (lt-leb (mark - safe) j h, le-ltb mark (suc safe + j) (omega arith))
+      | no h ↦ rw (le-leb (mark - safe) j (omega arith), lt-ltb mark (suc safe + j) (omega arith))
+    ]
+
 -- such a number is held where its place is in use
 pub held-in-place : (l : Log) (j : ℕ) → j < mostHeld → holds l (suc (l .safe .0) + j) ≡ not (eqb (getD (l .held .senders) (placeOf (suc (l .safe .0) + j)) 0) 0)
 unfolding holds
@@ -64,15 +72,8 @@ module _ (l : Log) where
   abbrev question : ℕ → Bool
   question n = ltb (l .level .0) n || holds l n
 
-  past : (j : ℕ) → leb many j ≡ ltb (l .level .0) (number j)
-  past j =
-      elim (decLt j many) [
-        | yes h ↦ rw (lt-leb many j h, le-ltb (l .level .0) (number j) (omega arith))
-        | no h ↦ rw (le-leb many j (omega arith), lt-ltb (l .level .0) (number j) (omega arith))
-      ]
-
   same : (j : ℕ) → j < mostHeld → placeFilled (l .held .senders) many (l .safe .0) (placeOf (number j)) ≡ question (number j)
-  same j h = rw (before-place (l .safe .0) j h, past j, held-in-place l j h)
+  same j h = rw (before-place (l .safe .0) j h, past-mark (l .safe .0) (l .level .0) j, held-in-place l j h)
 
   pub level-too-high : mostHeld < l .level .0 - l .safe .0 → false ≡ heldToLevel l
   unfolding heldToLevel holds

@@ -1,11 +1,9 @@
 -- How many of a run of numbers pass a test, and the same of the places of the numbers that may be held.
 use Prim.Native.Nat.{ℕ, zero, suc, _+_, _-_, _%_, _<_, _≤_}
 use mathlib.Core.Path.{_≡_, refl, sym, ap, _∙_}
-use mathlib.Core.Bool.{Bool, true, false, not, _&&_, cond}
+use mathlib.Core.Bool.{Bool, true, false, not, _&&_, cond, and-comm}
 use mathlib.Core.List.{List, [], _∷_}
-use borrow.Author.Tests.{le-leb, lt-leb, le-ltb, lt-ltb}
 use native.Mathlib.Nat.{add-zero, zero-add, sub-zero}
-use native.Mathlib.Decide.{decLt}
 use native.Mathlib.Omega.{arith}
 use lib.ListN.{length, getD}
 use lib.Dec.{leb, ltb, eqb}
@@ -14,7 +12,7 @@ use Rattle.record.specs.Count.{numbersAfter, those}
 use Rattle.record.specs.Held.{placeOf, holds, heldNumbers}
 use Rattle.record.specs.Panel.{undelivered}
 use Rattle.record.specs.declared.log.Log.{Log}
-use Rattle.record.proofs.PlaceLaws.{beforeIn, before-place, held-in-place}
+use Rattle.record.proofs.PlaceLaws.{beforeIn, before-place, past-mark, held-in-place}
 
 -- of n numbers from `first` on, so many pass
 unfoldable pub tally : (ℕ → Bool) → ℕ → ℕ → ℕ
@@ -136,21 +134,8 @@ module _ (l : Log) where
   abbrev number : ℕ → ℕ
   number j = suc (l .safe .0) + j
 
-  above : (j : ℕ) → leb past j ≡ ltb (l .delivered .0) (number j)
-  above j =
-      elim (decLt j past) [
-        | yes h ↦ rw (lt-leb past j h, le-ltb (l .delivered .0) (number j) (omega arith))
-        | no h ↦ rw (le-leb past j (omega arith), lt-ltb (l .delivered .0) (number j) (omega arith))
-      ]
-
-  both : (a b : Bool) → (a && b) ≡ (b && a)
-  both true true = refl
-  both true false = refl
-  both false true = refl
-  both false false = refl
-
   same : (j : ℕ) → j < mostHeld → placeUndelivered (l .held .senders) past (l .safe .0) (placeOf (number j)) ≡ (holds l (number j) && ltb (l .delivered .0) (number j))
-  same j h = rw (before-place (l .safe .0) j h, above j, held-in-place l j h) (both (ltb (l .delivered .0) (number j)) (not (eqb (getD (l .held .senders) (placeOf (number j)) 0) 0)))
+  same j h = rw (before-place (l .safe .0) j h, past-mark (l .safe .0) (l .delivered .0) j, held-in-place l j h) (and-comm (ltb (l .delivered .0) (number j)) (not (eqb (getD (l .held .senders) (placeOf (number j)) 0) 0)))
 
   pub undelivered-by-place : (count : ℕ)
       → count ≡ tally (placeUndelivered (l .held .senders) (l .delivered .0 - l .safe .0) (l .safe .0)) 0 mostHeld

@@ -34,7 +34,6 @@ pub use log::Log;
 pub use members::ids_follow;
 pub use members::is_member;
 pub use members::members_counted;
-pub use panel::undelivered;
 pub use posts::Posts;
 pub use ring::representative_of;
 pub use ring::this_ring;

@@ -157,8 +157,8 @@ fn posts_whole(p: PostsHead, waiting: &[u8]) -> bool
     unused::posts_unused_zero(p, waiting)
 }
 
-// All clauses but the panel's, of any values of the head and any contents: the posts, then the log, which the turn needs. Ruled out: a record with a
-// gap below its level; one whose token is another ring's.
+// All clauses but the panel's, of any values of the head and any contents: the posts, then the log, which the turn
+// needs. Ruled out: a record with a gap below its level; one whose token is another ring's.
 pub fn is_whole_on(h: Head, contents: &[u8], waiting: &[u8]) -> bool
     requires { ⌜ (length (now contents) ≡ heldContents) × (length (now waiting) ≡ postContents) ⌝ }
     ensures { λ b. ⌜ b ≡ partsWhole (recordOn h (now (contents .entry)) (now (waiting .entry))) ⌝ }

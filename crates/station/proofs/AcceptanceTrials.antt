@@ -34,6 +34,7 @@ use Rattle.visit.specs.Within.{framesUpTo, framesIn}
 use Rattle.visit.specs.trials.Sample.{Trial, sendersTo, allPass}
 use Rattle.station.specs.trials.Sample.{loadedWith}
 use Rattle.station.specs.trials.ArrivalTrials.{hearing, visiting, entering}
+use Rattle.station.specs.trials.RequestTrials.{requested}
 use Rattle.station.specs.trials.Trials.{calling, table}
 
 -- opens all that a row computes with
@@ -57,6 +58,10 @@ entering-pass : allPass entering ≡ true
 unfolding opened
 entering-pass = refl
 
+requested-pass : allPass requested ≡ true
+unfolding opened
+requested-pass = refl
+
 -- two parts make one
 with-first : (first : Bool) {rest more : Bool} → (first && rest) ≡ true → (rest ≡ true → more ≡ true) → (first && more) ≡ true
 with-first true e f = f e
@@ -68,4 +73,4 @@ both [] more e f = f
 both (t ∷ ts) more e f = with-first (eqb (t .gives) (t .wanted)) e (λ g. both ts more g f)
 
 pub trials : allPass table ≡ true
-trials = both calling _ calling-pass (both hearing _ hearing-pass (both visiting _ visiting-pass entering-pass))
+trials = both calling _ calling-pass (both hearing _ hearing-pass (both visiting _ visiting-pass (both entering _ entering-pass requested-pass)))

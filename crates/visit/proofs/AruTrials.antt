@@ -17,12 +17,12 @@ use Rattle.visit.specs.Deliver.{frameWith, takeWhile, due, delivered}
 use Rattle.visit.specs.Visit.{others, roundAllowance, othersBacklog, share, allowance, requests, repeats, unanswered, newCount, withSent, newNumbers, highest′, logNow, setsAru, aru′, blocker′, stall′, safe′, missing, requests′, broadcasts, round′, waits′, backlog′, nextIn, token′, turn′, log′, rec′}
 use Rattle.visit.specs.trials.Sample.{sendersTo, allPass}
 use Rattle.visit.specs.trials.Marks.{marking}
-use Rattle.visit.specs.trials.Shares.{sharing}
+use Rattle.visit.specs.trials.Shares.{allowing}
 
 pub marks-pass : allPass marking ≡ true
 unfolding flatten wordBytes wordsBytes every headerBytes numbersIn numbered tokenFixed holds heldWith cleared clearedFrom letGo postsFrom taken undelivered heldNumbers freshHeld membersPlaced freshLog freshTurn freshPosts fresh reached levelOf raised frameWith takeWhile due delivered others roundAllowance othersBacklog share allowance those requests repeats unanswered newCount withSent numbersAfter newNumbers highest′ logNow setsAru aru′ blocker′ stall′ safe′ missing requests′ broadcasts round′ waits′ backlog′ nextIn token′ turn′ log′ rec′ sendersTo allPass
 marks-pass = refl
 
-pub shares-pass : allPass sharing ≡ true
+pub allowances-pass : allPass allowing ≡ true
 unfolding undelivered heldNumbers freshHeld membersPlaced freshLog freshTurn freshPosts fresh others roundAllowance othersBacklog share allowance allPass
-shares-pass = refl
+allowances-pass = refl

@@ -2,7 +2,6 @@
 use Prim.Native.Nat.{ℕ}
 use mathlib.Core.List.{List, [], _∷_, _++_}
 use lib.ListN.{length, set, take}
-use Rattle.frames.specs.Token.{tokenBytes}
 use Rattle.frames.specs.trials.Trials.{from1to}
 use Rattle.frames.specs.declared.token.Blocker.the-variants.{Nobody, Member}
 use Rattle.record.specs.Held.{holds}
@@ -14,9 +13,9 @@ use Rattle.visit.specs.Deliver.{entryOf}
 use Rattle.station.specs.Post.{posted}
 use Rattle.station.specs.Resend.{resent}
 use Rattle.station.specs.Arrive.{arrived}
-use Rattle.visit.specs.trials.Sample.{Trial, row, yes, rowOf, members, station, reachedWith, reachedTo, safeTo, turnWith, turnWaited, tokenCarrying, level7, level10}
+use Rattle.visit.specs.trials.Sample.{Trial, row, yes, rowOf, members, station, reachedWith, reachedTo, safeTo, turnWith, level7, level10}
 use Rattle.visit.specs.trials.Marks.{marking}
-use Rattle.station.specs.trials.Sample.{refusal, outcome, bytes, loadedWith, messageFrame, tokenFrame, arrives, heard, visited, framesCount, frameAt, tokenLeft, aruLeft, requestsLeft, countsLeft, shareLeft, stallLeft, marks}
+use Rattle.station.specs.trials.Sample.{refusal, outcome, bytes, loadedWith, messageFrame, tokenFrame, arrives, heard, visited, framesCount, frameAt, tokenLeft, aruLeft, requestsLeft, countsLeft, stallLeft, marks}
 
 abbrev pub level31 : Record
 level31 = reachedTo 31
@@ -139,30 +138,6 @@ flow =
     ∷ rowOf (countsLeft (visited (loadedWith 2 level10) 4 10 10 Nobody 0 [])) (3 ∷ 12 ∷ 2 ∷ 0 ∷ [])
     ∷ []
 
--- n posts wait at a station with this own part of the backlog; a token with this backlog
-abbrev pub shared : ℕ → ℕ → ℕ → Reply
-shared n waited backlog = arrives (loadedWith n (reachedWith 0 (turnWaited 0 0 0 waited))) (tokenBytes (tokenCarrying 4 7 4 0 0 Nobody 0 backlog []))
-
--- document 02, Job 1
-abbrev pub sharing : List Trial
-sharing =
-    -- 16 wait here, none elsewhere: 8 new
-    rowOf (shareLeft (shared 16 0 0)) (8 ∷ 8 ∷ 8 ∷ [])
-    -- 16 here, 80 elsewhere: 4, whether one's own part is on the token or not
-    ∷ rowOf (shareLeft (shared 16 0 80)) (4 ∷ 92 ∷ 12 ∷ [])
-    ∷ rowOf (shareLeft (shared 16 16 96)) (4 ∷ 92 ∷ 12 ∷ [])
-    -- 1 here, 96 elsewhere: the share is 0, so 1
-    ∷ rowOf (shareLeft (shared 1 0 96)) (1 ∷ 96 ∷ 0 ∷ [])
-    -- nothing waits; one's own part is taken off, not below 0
-    ∷ rowOf (shareLeft (shared 0 5 96)) (0 ∷ 91 ∷ 0 ∷ [])
-    ∷ rowOf (shareLeft (shared 0 16 5)) (0 ∷ 0 ∷ 0 ∷ [])
-    -- 128 in all
-    ∷ rowOf (shareLeft (shared 16 0 128)) (2 ∷ 128 ∷ 14 ∷ [])
-    -- backlog 129: 12. An own part of 17: not whole
-    ∷ row (refusal (shared 0 0 129)) 12
-    ∷ row (refusal (shared 0 17 0)) 2
-    ∷ []
-
 -- the size of the frame in which a content of n bytes is broadcast
 abbrev pub broadcastSize : ℕ → ℕ
 broadcastSize n = length (frameAt (visited (posted station 0 (bytes n) .rec) 4 0 0 Nobody 0 []) 0)
@@ -246,31 +221,6 @@ delivering =
     ∷ row (outcome (heard (twice .rec) 1 1 (bytes 2))) 4
     ∷ []
 
--- ---- the panel's count [document 02, Job 2]
-
--- the same station with another count
-abbrev pub showing : ℕ → Record → Record
-showing n r = record { own = r .own; panel = n; log = r .log; turn = r .turn; posts = r .posts }
-
-abbrev pub panels : List Trial
-panels =
-    -- nothing is held
-    row (station .panel) 0
-    -- one behind a gap counts; once the gap is closed both are delivered
-    ∷ row (heard station 2 0 [] .rec .panel) 1
-    ∷ row (heard (heard station 2 0 [] .rec) 1 0 [] .rec .panel) 0
-    -- one that is ahead is not held
-    ∷ row (heard station 33 0 [] .rec .panel) 0
-    -- a safe one waits, and the one behind it; not after one forwarding, but when the safe mark reaches them they are delivered
-    ∷ row (heard1 .rec .panel) 1
-    ∷ row (heard2 .rec .panel) 2
-    ∷ row (once .rec .panel) 2
-    ∷ row (twice .rec .panel) 0
-    -- another count is not whole
-    ∷ row (refusal (arrives (showing 1 station) [])) 2
-    ∷ row (refusal (arrives (showing 0 (heard1 .rec)) [])) 2
-    ∷ []
-
 -- ---- questions at the door
 
 -- the token that `forwarded` accepted
@@ -337,10 +287,10 @@ resendings =
 -- ---- the three parts: of messages, of tokens, of both at the door
 
 abbrev pub hearing : List Trial
-hearing = samples ++ messages ++ delivering ++ panels
+hearing = samples ++ messages ++ delivering
 
 abbrev pub visiting : List Trial
-visiting = marking ++ arus ++ forwarding ++ flow ++ sharing ++ contents ++ stalling ++ requesting
+visiting = marking ++ arus ++ forwarding ++ flow ++ contents ++ stalling ++ requesting
 
 abbrev pub entering : List Trial
 entering = door ++ resendings

@@ -1,4 +1,4 @@
--- Document 01's trials and their edges: a table of tests and the number that each gives. Those of arrival stand in ArrivalTrials.antt;
+-- Document 01's trials and their edges: a table of tests and the number that each gives. Those of arrival stand in ArrivalTrials.antt, those of document 02's requests in RequestTrials.antt;
 -- the specification's own are marked by a star. proofs/AcceptanceTrials.antt has the one theorem that every row passes. [document 01, Trials]
 use Prim.Native.Nat.{ℕ, _-_}
 use mathlib.Core.Bool.{true, false}
@@ -19,6 +19,7 @@ use Rattle.station.specs.Resend.{resent}
 use Rattle.visit.specs.trials.Sample.{Trial, row, rowOf, station}
 use Rattle.station.specs.trials.Sample.{refusal, outcome, bytes, loadedWith}
 use Rattle.station.specs.trials.ArrivalTrials.{hearing, visiting, entering}
+use Rattle.station.specs.trials.RequestTrials.{requested}
 
 abbrev pub foundedBy : List ℕ → ℕ → ℕ → Reply
 foundedBy ids own ring = founded station true ids own ring
@@ -104,4 +105,4 @@ abbrev pub calling : List Trial
 calling = founding ++ posting ++ resending ++ sizes
 
 abbrev pub table : List Trial
-table = calling ++ hearing ++ visiting ++ entering
+table = calling ++ hearing ++ visiting ++ entering ++ requested

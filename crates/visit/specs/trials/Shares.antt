@@ -22,8 +22,8 @@ busy n waited = withParts station (station .log) (turnWaited 0 0 0 waited) (wait
 abbrev pub visits : Record → ℕ → ℕ → Visit
 visits r round backlog = visit r (tokenCarrying 4 7 4 0 0 Nobody round backlog [])
 
-abbrev pub sharing : List Trial
-sharing =
+abbrev pub allowing : List Trial
+allowing =
     -- 16 wait here, none elsewhere: the share is 24, so document 01's 8
     row (allowance (visits (busy 16 0) 0 0)) 8
     -- 16 here, 80 elsewhere: 4
