@@ -1,11 +1,11 @@
 // Numbers as a script writes them, digit by digit, of any length.
 ghost use Rattle.std.specs.Prelude.{◌≡◌, min};
-ghost use Rattle.bench.specs.Number.{mostValue, moreDecimal, hexValue};
+ghost use Rattle.bench.specs.Number.{most_value, more_decimal, hex_value};
 
 // A number with one digit more behind it; a number too large for its type stays the largest. Ruled
 // out: a large number that wraps to a small one; leading zeros that count.
 pub fn more_decimal(value: u32, digit: u8) -> u32
-    ensures { result ≡ moreDecimal value digit }
+    ensures { result ≡ more_decimal value digit }
 {
     let more = 10 * (value as u64) + digit as u64;
     if more <= u32::MAX as u64 {
@@ -20,7 +20,7 @@ pub const NO_DIGIT: u8 = 16;
 
 // What a hexadecimal digit of either case is worth, or NO_DIGIT. Ruled out: `g` taken; `A` refused.
 pub fn hex_value(b: u8) -> u8
-    ensures { result ≡ hexValue b }
+    ensures { result ≡ hex_value b }
 {
     if b < b'0' {
         return NO_DIGIT;
@@ -51,7 +51,7 @@ pub fn within_u16(value: u32) -> u16
 }
 
 pub fn within_u32(value: usize) -> u32
-    ensures { result ≡ min value mostValue }
+    ensures { result ≡ min value most_value }
 {
     if value <= u32::MAX as usize {
         value as u32

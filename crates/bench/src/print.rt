@@ -1,7 +1,7 @@
 // The lines that the bench prints.
 ghost use Rattle.std.specs.Prelude.{◌≡◌, ◌++◌};
 ghost use Rattle.text.specs.Text.{filled, put, piece, decimal};
-ghost use Rattle.bench.specs.Print.{spaced, deliveryHead, deliveryLine, numberLine, refusalLine};
+ghost use Rattle.bench.specs.Print.{spaced, delivery_head, delivery_line, number_line, refusal_line};
 
 use crate::output;
 use crate::output::Output;
@@ -23,7 +23,7 @@ fn put_spaced(out: &mut [u8], at: usize, n: u32) -> usize
 
 // Place, message number, sender, service; a space after each.
 fn put_head(out: &mut [u8], at: usize, place: u32, m: Message) -> usize
-    ensures { filled result out.new ≡ put (deliveryHead place m) (filled at out.old) }
+    ensures { filled result out.new ≡ put (delivery_head place m) (filled at out.old) }
 {
     let at = put_spaced(out, at, place);
     let at = put_spaced(out, at, m.number.0);
@@ -32,7 +32,7 @@ fn put_head(out: &mut [u8], at: usize, place: u32, m: Message) -> usize
 }
 
 fn put_delivery(out: &mut [u8], at: usize, place: u32, m: Message, content: &[u8]) -> usize
-    ensures { filled result out.new ≡ put (deliveryLine place m content.now) (filled at out.old) }
+    ensures { filled result out.new ≡ put (delivery_line place m content.now) (filled at out.old) }
 {
     let at = put_head(out, at, place, m);
     let at = text::put_bytes(out, at, content);
@@ -40,13 +40,13 @@ fn put_delivery(out: &mut [u8], at: usize, place: u32, m: Message, content: &[u8
 }
 
 fn put_number(out: &mut [u8], at: usize, n: u32) -> usize
-    ensures { filled result out.new ≡ put (numberLine n) (filled at out.old) }
+    ensures { filled result out.new ≡ put (number_line n) (filled at out.old) }
 {
     put_ended(out, at, n, b"\n")
 }
 
 fn put_refusal(out: &mut [u8], at: usize, number: u16) -> usize
-    ensures { filled result out.new ≡ put (refusalLine number) (filled at out.old) }
+    ensures { filled result out.new ≡ put (refusal_line number) (filled at out.old) }
 {
     let at = text::put_bytes(out, at, b"no ");
     put_number(out, at, number as u32)

@@ -1,13 +1,13 @@
 // A buffer of input: frames one after another, the last perhaps not whole yet.
 ghost use Rattle.std.specs.Prelude.{◌≡◌, ◌-◌, ◌≤◌, ◌<◌, length, take, drop};
-ghost use Rattle.frames.specs.Layout.{mostFramed};
-ghost use Rattle.dump.specs.Input.{wholeSize};
+ghost use Rattle.frames.specs.Layout.{most_framed};
+ghost use Rattle.dump.specs.Input.{whole_size};
 
 // How long the frame is that a stream begins with, or 0 while it has not come whole.
 pub fn whole_size(stream: &[u8]) -> usize
-    ensures value { result ≡ wholeSize stream.now }
+    ensures value { result ≡ whole_size stream.now }
     ensures upper_bound { result ≤ length stream.now }
-    ensures stream_len_bound { result ≡ 0 → length stream.now < mostFramed }
+    ensures stream_len_bound { result ≡ 0 → length stream.now < most_framed }
 {
     let size = frames::framed_size(stream);
     if size <= stream.len() { size } else { 0 }

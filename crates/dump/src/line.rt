@@ -2,8 +2,8 @@
 // the question that refuses it.
 ghost use Rattle.std.specs.Prelude.{◌≡◌, ◌+◌, ◌≤◌, length, take};
 ghost use Rattle.text.specs.Text.{filled, put, each, Whole};
-ghost use Rattle.dump.specs.Line.{field, headerText, messageFields, messageLine, blockerText, following, commaSeparated};
-ghost use Rattle.dump.specs.Line.{requestsText, tokenFields, tokenLine, unreadLine, line_of, longestLine};
+ghost use Rattle.dump.specs.Line.{field, header_text, message_fields, message_line, blocker_text, following, comma_separated};
+ghost use Rattle.dump.specs.Line.{requests_text, token_fields, token_line, unread_line, line_of, longest_line};
 
 use frames::{Answer, Blocker, Header, Message, Token};
 
@@ -21,7 +21,7 @@ fn put_id(out: &mut [u8], at: usize, name: &[u8], id: u16) -> usize
 }
 
 fn put_header(out: &mut [u8], at: usize, kind: &[u8], h: Header) -> usize
-    ensures { filled result out.new ≡ put (headerText kind.now h) (filled at out.old) }
+    ensures { filled result out.new ≡ put (header_text kind.now h) (filled at out.old) }
 {
     let at = text::put_bytes(out, at, kind);
     let at = put_field(out, at, b" ring=", h.ring.0);
@@ -30,7 +30,7 @@ fn put_header(out: &mut [u8], at: usize, kind: &[u8], h: Header) -> usize
 
 // The configuration of a message that reads is 0.
 fn put_message_fields(out: &mut [u8], at: usize, m: Message) -> usize
-    ensures { filled result out.new ≡ put (messageFields m) (filled at out.old) }
+    ensures { filled result out.new ≡ put (message_fields m) (filled at out.old) }
 {
     let at = put_header(out, at, b"message", m.header);
     let at = put_id(out, at, b" sender_id=", m.sender);
@@ -40,7 +40,7 @@ fn put_message_fields(out: &mut [u8], at: usize, m: Message) -> usize
 }
 
 fn put_message(out: &mut [u8], at: usize, m: Message, content: &[u8]) -> usize
-    ensures { filled result out.new ≡ put (messageLine m content.now) (filled at out.old) }
+    ensures { filled result out.new ≡ put (message_line m content.now) (filled at out.old) }
 {
     let at = put_message_fields(out, at, m);
     let at = text::put_bytes(out, at, b" contents=\"");
@@ -49,7 +49,7 @@ fn put_message(out: &mut [u8], at: usize, m: Message, content: &[u8]) -> usize
 }
 
 fn put_blocker(out: &mut [u8], at: usize, b: Blocker) -> usize
-    ensures { filled result out.new ≡ put (blockerText b) (filled at out.old) }
+    ensures { filled result out.new ≡ put (blocker_text b) (filled at out.old) }
 {
     match b {
         Blocker::Nobody => text::put_bytes(out, at, b" aru_id=nobody"),
@@ -76,7 +76,7 @@ fn put_following(out: &mut [u8], at: usize, numbers: &[u32]) -> usize
 }
 
 fn put_numbers(out: &mut [u8], at: usize, numbers: &[u32]) -> usize
-    ensures { filled result out.new ≡ put (commaSeparated numbers.now) (filled at out.old) }
+    ensures { filled result out.new ≡ put (comma_separated numbers.now) (filled at out.old) }
 {
     if numbers.len() == 0 {
         return at;
@@ -100,7 +100,7 @@ fn put_requests(
     requests: &[u32; frames::MOST_REQUESTS],
     count: u16,
 ) -> usize
-    ensures { filled result out.new ≡ put (requestsText requests.now count) (filled at out.old) }
+    ensures { filled result out.new ≡ put (requests_text requests.now count) (filled at out.old) }
 {
     let at = text::put_bytes(out, at, b" rtr=[");
     let at = put_numbers(out, at, first(requests, count as usize));
@@ -108,7 +108,7 @@ fn put_requests(
 }
 
 fn put_token_fields(out: &mut [u8], at: usize, t: Token) -> usize
-    ensures { filled result out.new ≡ put (tokenFields t) (filled at out.old) }
+    ensures { filled result out.new ≡ put (token_fields t) (filled at out.old) }
 {
     let at = put_header(out, at, b"token", t.header);
     let at = put_id(out, at, b" addressee=", t.addressee);
@@ -118,7 +118,7 @@ fn put_token_fields(out: &mut [u8], at: usize, t: Token) -> usize
 }
 
 fn put_token(out: &mut [u8], at: usize, t: Token) -> usize
-    ensures { filled result out.new ≡ put (tokenLine t) (filled at out.old) }
+    ensures { filled result out.new ≡ put (token_line t) (filled at out.old) }
 {
     let blocker = t.blocker;
     let places = t.requests;
@@ -132,7 +132,7 @@ fn put_token(out: &mut [u8], at: usize, t: Token) -> usize
 }
 
 fn put_refusal(out: &mut [u8], at: usize, number: u16) -> usize
-    ensures { filled result out.new ≡ put (unreadLine number) (filled at out.old) }
+    ensures { filled result out.new ≡ put (unread_line number) (filled at out.old) }
 {
     let at = put_id(out, at, b"no ", number);
     text::put_bytes(out, at, b"\n")
@@ -143,7 +143,7 @@ pub const LONGEST_LINE: usize = 512;
 
 // The line of one frame, whole. Ruled out: two fields swapped; a line cut short.
 pub fn put_line(out: &mut [u8], at: usize, frame: &[u8]) -> usize
-    requires { at + longestLine ≤ length out.old }
+    requires { at + longest_line ≤ length out.old }
     ensures { Whole out.old at (line_of frame.now) result out.new }
 {
     let reading = frames::read(frame);

@@ -4,8 +4,8 @@ mod input;
 mod line;
 
 ghost use Rattle.std.specs.Prelude.{◌+◌, ◌≤◌, ◌<◌, length};
-ghost use Rattle.frames.specs.Layout.{mostFramed};
-ghost use Rattle.dump.specs.Line.{longestLine};
+ghost use Rattle.frames.specs.Layout.{most_framed};
+ghost use Rattle.dump.specs.Line.{longest_line};
 
 use libc::{STDIN_FILENO, STDOUT_FILENO};
 
@@ -28,8 +28,8 @@ struct Progress {
 
 // Where the next line goes in `out`, of which `used` bytes are taken: a line is sure to fit there.
 fn make_room(out: &[u8], used: usize) -> Progress
-    requires { (used ≤ length out.now) × (longestLine ≤ length out.now) }
-    ensures { result.at + longestLine ≤ length out.now }
+    requires { (used ≤ length out.now) × (longest_line ≤ length out.now) }
+    ensures { result.at + longest_line ≤ length out.now }
 {
     if line::LONGEST_LINE <= out.len() - used {
         return Progress {
@@ -45,8 +45,8 @@ fn make_room(out: &[u8], used: usize) -> Progress
 
 // Writes the line of each whole frame of `input`. What is left is a part of one frame, or nothing.
 fn show_frames(input: &[u8], out: &mut [u8]) -> Progress
-    requires { longestLine ≤ length out.old }
-    ensures { (result.at ≤ length input.now) × (length input.now < result.at + mostFramed) }
+    requires { longest_line ≤ length out.old }
+    ensures { (result.at ≤ length input.now) × (length input.now < result.at + most_framed) }
 {
     let mut from = 0;
     let mut used = 0;
@@ -71,7 +71,7 @@ fn show_frames(input: &[u8], out: &mut [u8]) -> Progress
 
 // The input ended within a frame, so that it does not read.
 fn show_rest(rest: &[u8], out: &mut [u8])
-    requires { longestLine ≤ length out.old }
+    requires { longest_line ≤ length out.old }
 {
     if rest.len() == 0 {
         return;
@@ -84,8 +84,8 @@ fn show_rest(rest: &[u8], out: &mut [u8])
 // lines of the frames that are whole then. Answers how many bytes are held for the next turn. The
 // buffer has room for any frame, so there is always room to read, and nothing read is the end.
 fn take_turn(buffer: &mut [u8], held: usize, out: &mut [u8]) -> Progress
-    requires { (held < mostFramed) × (mostFramed ≤ length buffer.old) × (longestLine ≤ length out.old) }
-    ensures { result.at < mostFramed }
+    requires { (held < most_framed) × (most_framed ≤ length buffer.old) × (longest_line ≤ length out.old) }
+    ensures { result.at < most_framed }
 {
     let got = libc::read(STDIN_FILENO, &mut buffer[held..]);
     if got < 0 {
@@ -111,7 +111,7 @@ fn take_turn(buffer: &mut [u8], held: usize, out: &mut [u8]) -> Progress
 // A proved loop has to end, and nothing says that the input does. So it counts its turns down, from
 // a number that no run uses up.
 fn show_all(buffer: &mut [u8], out: &mut [u8])
-    requires { (mostFramed ≤ length buffer.old) × (longestLine ≤ length out.old) }
+    requires { (most_framed ≤ length buffer.old) × (longest_line ≤ length out.old) }
 {
     let mut held = 0;
     let mut turns = u64::MAX;

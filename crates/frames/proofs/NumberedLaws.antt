@@ -6,16 +6,16 @@ use native.Mathlib.Numerals.{add-one}
 use native.Mathlib.Omega.{arith}
 use lib.ListN.{length, get_or, set, drop, length-map, length-set, drop_of_length-le}
 use lib.Seq.{sets, sets-eq, drop-cons}
-use Rattle.frames.specs.Token.{numbersIn, numbered}
+use Rattle.frames.specs.Token.{numbers_in, numbered}
 use Rattle.frames.specs.declared.number.MessageNumber.{MessageNumber}
 
-pub numbers-back : (ns : List ℕ) → numbersIn (numbered ns) ≡ ns
-unfolding numbersIn numbered
+pub numbers-back : (ns : List ℕ) → numbers_in (numbered ns) ≡ ns
+unfolding numbers_in numbered
 numbers-back [] = refl
 numbers-back (n ∷ ns) = ap (λ ms. n ∷ ms) (numbers-back ns)
 
-pub numbered-back : (ns : List MessageNumber) → numbered (numbersIn ns) ≡ ns
-unfolding numbersIn numbered
+pub numbered-back : (ns : List MessageNumber) → numbered (numbers_in ns) ≡ ns
+unfolding numbers_in numbered
 numbered-back [] = refl
 numbered-back (n ∷ ns) = ap (λ ms. n ∷ ms) (numbered-back ns)
 

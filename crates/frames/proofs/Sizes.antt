@@ -11,45 +11,45 @@ use lib.ListN.{length, length-append}
 use lib.Seq.{length-take-le}
 use Rattle.words.proofs.WordLaws.{length-word}
 use Rattle.words.proofs.RunLaws.{length-words-bytes}
-use Rattle.frames.specs.Layout.{length_at, lengthSize, headerSize, contentAt, messageSize, requestsAt, tokenSize}
-use Rattle.frames.specs.Header.{ownSize, framedSize, headerBytes}
-use Rattle.frames.specs.Message.{messageFixed, messageBytes}
-use Rattle.frames.specs.Token.{requestNumbers, tokenCounts, tokenFixed, tokenBytes}
+use Rattle.frames.specs.Layout.{length_at, length_size, header_size, content_at, message_size, requests_at, token_size}
+use Rattle.frames.specs.Header.{own_size, framed_size, header_bytes}
+use Rattle.frames.specs.Message.{message_fixed, message_bytes}
+use Rattle.frames.specs.Token.{request_numbers, token_counts, token_fixed, token_bytes}
 use Rattle.frames.specs.declared.header.Header.{Header}
 use Rattle.frames.specs.declared.message.Message.{Message}
 use Rattle.frames.specs.declared.token.Token.{Token}
 
-pub header-length : (size kind : ℕ) (h : Header) → length (headerBytes size kind h) ≡ headerSize
-unfolding headerBytes
+pub header-length : (size kind : ℕ) (h : Header) → length (header_bytes size kind h) ≡ header_size
+unfolding header_bytes
 header-length size kind h = simp (length-append, length-word)
 
-pub message-fixed-length : (m : Message) (size : ℕ) → length (messageFixed m size) ≡ contentAt
-unfolding messageFixed
+pub message-fixed-length : (m : Message) (size : ℕ) → length (message_fixed m size) ≡ content_at
+unfolding message_fixed
 message-fixed-length m size = simp (length-append, length-word, header-length)
 
-pub message-length : (m : Message) (content : List ℕ) → length (messageBytes m content) ≡ messageSize (length content)
+pub message-length : (m : Message) (content : List ℕ) → length (message_bytes m content) ≡ message_size (length content)
 message-length m content = simp (length-append, message-fixed-length)
 
-pub counts-length : (t : Token) → length (tokenCounts t) ≡ 6
+pub counts-length : (t : Token) → length (token_counts t) ≡ 6
 counts-length t = simp (length-append, length-word)
 
-pub token-fixed-length : (t : Token) → length (tokenFixed t) ≡ requestsAt
-unfolding tokenFixed
+pub token-fixed-length : (t : Token) → length (token_fixed t) ≡ requests_at
+unfolding token_fixed
 token-fixed-length t = simp (length-append, length-word, header-length)
 
-pub token-length : (t : Token) → t.count ≤ length (requestNumbers t) → length (tokenBytes t) ≡ tokenSize t.count
-token-length t few = simp (length-append, token-fixed-length, length-words-bytes, length-take-le t.count (requestNumbers t) few)
+pub token-length : (t : Token) → t.count ≤ length (request_numbers t) → length (token_bytes t) ≡ token_size t.count
+token-length t few = simp (length-append, token-fixed-length, length-words-bytes, length-take-le t.count (request_numbers t) few)
 
 -- ---- a stream
 
-none-framed : (b : Bool) (n : ℕ) → cond b (lengthSize + n) 0 ≡ 0 → b ≡ false
+none-framed : (b : Bool) (n : ℕ) → cond b (length_size + n) 0 ≡ 0 → b ≡ false
 none-framed true n e = absurd (omega arith)
 none-framed false n e = refl
 
-pub framed-none : (s : List ℕ) → framedSize s ≡ 0 → length s < lengthSize
-unfolding framedSize
-framed-none s e = leb-false lengthSize (length s) (none-framed (leb lengthSize (length s)) (word_at 2 s length_at) e)
+pub framed-none : (s : List ℕ) → framed_size s ≡ 0 → length s < length_size
+unfolding framed_size
+framed-none s e = leb-false length_size (length s) (none-framed (leb length_size (length s)) (word_at 2 s length_at) e)
 
-pub framed-own : (s : List ℕ) → lengthSize ≤ length s → framedSize s ≡ ownSize s
-unfolding framedSize
-framed-own s h = rw (le-leb lengthSize (length s) h)
+pub framed-own : (s : List ℕ) → length_size ≤ length s → framed_size s ≡ own_size s
+unfolding framed_size
+framed-own s h = rw (le-leb length_size (length s) h)

@@ -2,15 +2,15 @@
 use mathlib.Core.Path.{◌≡◌, refl}
 use mathlib.Core.Bool.{true}
 use Rattle.words.specs.Word.{word_bytes, word_of, word_at}
-use Rattle.words.specs.Run.{words, wordsBytes}
+use Rattle.words.specs.Run.{words, words_bytes}
 use Rattle.words.specs.Scan.{every}
-use Rattle.frames.specs.Header.{headerOf, headerFollows, headerBytes}
-use Rattle.frames.specs.Message.{messageOf, messageFollows, messageFixed}
-use Rattle.frames.specs.Token.{numbersIn, numbered, requestsOf, requestsFollow, tokenOf, tokenFollows, tokenFixed}
-use Rattle.frames.specs.Read.{blankToken, readMessage, readToken, read_of}
-use Rattle.frames.specs.Write.{writingOf}
-use Rattle.frames.specs.trials.Trials.{allFramesPass, firstBytes, frameTrials}
+use Rattle.frames.specs.Header.{header_of, header_follows, header_bytes}
+use Rattle.frames.specs.Message.{message_of, message_follows, message_fixed}
+use Rattle.frames.specs.Token.{numbers_in, numbered, requests_of, requests_follow, token_of, token_follows, token_fixed}
+use Rattle.frames.specs.Read.{blank_token, read_message, read_token, read_of}
+use Rattle.frames.specs.Write.{writing_of}
+use Rattle.frames.specs.trials.Trials.{all_frames_pass, first_bytes, frame_trials}
 
-pub trials : allFramesPass frameTrials ≡ true
-unfolding frameTrials firstBytes word_bytes word_of word_at words wordsBytes every headerOf headerFollows headerBytes messageOf messageFollows messageFixed numbersIn numbered requestsOf requestsFollow tokenOf tokenFollows tokenFixed blankToken readMessage readToken read_of writingOf
+pub trials : all_frames_pass frame_trials ≡ true
+unfolding frame_trials first_bytes word_bytes word_of word_at words words_bytes every header_of header_follows header_bytes message_of message_follows message_fixed numbers_in numbered requests_of requests_follow token_of token_follows token_fixed blank_token read_message read_token read_of writing_of
 trials = refl

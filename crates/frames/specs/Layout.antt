@@ -7,107 +7,107 @@ abbrev pub length_at : ℕ
 length_at = 0
 
 -- the length field counts the bytes after itself
-abbrev pub lengthSize : ℕ
-lengthSize = 2
+abbrev pub length_size : ℕ
+length_size = 2
 
 -- a length field of two bytes gives a frame at most this size
-abbrev pub mostFramed : ℕ
-mostFramed = 65537
+abbrev pub most_framed : ℕ
+most_framed = 65537
 
 abbrev pub kind_at : ℕ
 kind_at = 2
 
-abbrev pub ringAt : ℕ
-ringAt = 4
+abbrev pub ring_at : ℕ
+ring_at = 4
 
-abbrev pub representativeAt : ℕ
-representativeAt = 8
+abbrev pub representative_at : ℕ
+representative_at = 8
 
-abbrev pub headerSize : ℕ
-headerSize = 10
+abbrev pub header_size : ℕ
+header_size = 10
 
 -- ---- kind 1, message
 
-abbrev pub messageKind : ℕ
-messageKind = 1
+abbrev pub message_kind : ℕ
+message_kind = 1
 
-abbrev pub senderAt : ℕ
-senderAt = 10
+abbrev pub sender_at : ℕ
+sender_at = 10
 
-abbrev pub messageNumberAt : ℕ
-messageNumberAt = 12
+abbrev pub message_number_at : ℕ
+message_number_at = 12
 
-abbrev pub configurationAt : ℕ
-configurationAt = 16
+abbrev pub configuration_at : ℕ
+configuration_at = 16
 
-abbrev pub serviceAt : ℕ
-serviceAt = 20
+abbrev pub service_at : ℕ
+service_at = 20
 
-abbrev pub contentAt : ℕ
-contentAt = 22
+abbrev pub content_at : ℕ
+content_at = 22
 
 -- service 0 is agreed, 1 is safe
-abbrev pub mostService : ℕ
-mostService = 1
+abbrev pub most_service : ℕ
+most_service = 1
 
-abbrev pub mostContent : ℕ
-mostContent = 64
+abbrev pub most_content : ℕ
+most_content = 64
 
 -- of a message with a content of n bytes
-abbrev pub messageSize : ℕ → ℕ
-messageSize n = contentAt + n
+abbrev pub message_size : ℕ → ℕ
+message_size n = content_at + n
 
-abbrev pub longestMessage : ℕ
-longestMessage = messageSize mostContent
+abbrev pub longest_message : ℕ
+longest_message = message_size most_content
 
 -- ---- kind 2, token
 
-abbrev pub tokenKind : ℕ
-tokenKind = 2
+abbrev pub token_kind : ℕ
+token_kind = 2
 
-abbrev pub addresseeAt : ℕ
-addresseeAt = 10
+abbrev pub addressee_at : ℕ
+addressee_at = 10
 
-abbrev pub tokenNumberAt : ℕ
-tokenNumberAt = 12
+abbrev pub token_number_at : ℕ
+token_number_at = 12
 
-abbrev pub highestAt : ℕ
-highestAt = 16
+abbrev pub highest_at : ℕ
+highest_at = 16
 
-abbrev pub aruAt : ℕ
-aruAt = 20
+abbrev pub aru_at : ℕ
+aru_at = 20
 
-abbrev pub blockerAt : ℕ
-blockerAt = 24
+abbrev pub blocker_at : ℕ
+blocker_at = 24
 
-abbrev pub roundAt : ℕ
-roundAt = 26
+abbrev pub round_at : ℕ
+round_at = 26
 
-abbrev pub backlogAt : ℕ
-backlogAt = 28
+abbrev pub backlog_at : ℕ
+backlog_at = 28
 
-abbrev pub countAt : ℕ
-countAt = 30
+abbrev pub count_at : ℕ
+count_at = 30
 
-abbrev pub requestsAt : ℕ
-requestsAt = 32
+abbrev pub requests_at : ℕ
+requests_at = 32
 
-abbrev pub mostRound : ℕ
-mostRound = 128
+abbrev pub most_round : ℕ
+most_round = 128
 
-abbrev pub mostBacklog : ℕ
-mostBacklog = 128
+abbrev pub most_backlog : ℕ
+most_backlog = 128
 
-abbrev pub mostRequests : ℕ
-mostRequests = 16
+abbrev pub most_requests : ℕ
+most_requests = 16
 
 -- of a token with n requests
-abbrev pub tokenSize : ℕ → ℕ
-tokenSize n = requestsAt + 4 * n
+abbrev pub token_size : ℕ → ℕ
+token_size n = requests_at + 4 * n
 
 -- without requests, as a ring's first token
-abbrev pub shortestToken : ℕ
-shortestToken = tokenSize 0
+abbrev pub shortest_token : ℕ
+shortest_token = token_size 0
 
-abbrev pub longestToken : ℕ
-longestToken = tokenSize mostRequests
+abbrev pub longest_token : ℕ
+longest_token = token_size most_requests

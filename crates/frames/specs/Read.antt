@@ -1,11 +1,11 @@
 -- Reading a frame: any list of bytes gives values, or the first of questions 10 to 12 that fails. [document 01, Questions at the door]
 use Rattle.std.specs.Prelude.{ℕ, Bool, ◌&&◌, cond, List, length, replicate, leb, eqb}
 use Rattle.words.specs.Word.{word_at}
-use Rattle.frames.specs.Layout.{kind_at, headerSize, configurationAt, contentAt, messageKind, requestsAt, mostRequests, tokenKind, tokenSize}
-use Rattle.frames.specs.Refusal.{frameRefusalNumber}
-use Rattle.frames.specs.Header.{ownSize}
-use Rattle.frames.specs.Message.{configuration, messageOf, contentOf, messageFollows}
-use Rattle.frames.specs.Token.{requestCount, tokenOf, tokenFollows}
+use Rattle.frames.specs.Layout.{kind_at, header_size, configuration_at, content_at, message_kind, requests_at, most_requests, token_kind, token_size}
+use Rattle.frames.specs.Refusal.{frame_refusal_number}
+use Rattle.frames.specs.Header.{own_size}
+use Rattle.frames.specs.Message.{configuration, message_of, content_of, message_follows}
+use Rattle.frames.specs.Token.{request_count, token_of, token_follows}
 use Rattle.frames.specs.declared.refusal.Refusal.{Refusal}
 use Rattle.frames.specs.declared.refusal.Refusal.TheVariants.{WrongLength, OtherKind, Malformed}
 use Rattle.frames.specs.declared.message.Message.{Message}
@@ -18,13 +18,13 @@ use Rattle.frames.specs.declared.reader.Answer.TheVariants.{Refused, IsMessage, 
 -- ---- the three outcomes; an enum holds no array, so a token stands beside its answer
 
 -- the number that document 01 gives to an answer: 0 where nothing is refused
-abbrev pub answerNumber : Answer → ℕ
-answerNumber (Refused why) = frameRefusalNumber why
-answerNumber (IsMessage m) = 0
-answerNumber IsToken = 0
+abbrev pub answer_number : Answer → ℕ
+answer_number (Refused why) = frame_refusal_number why
+answer_number (IsMessage m) = 0
+answer_number IsToken = 0
 
-unfoldable pub blankToken : Token
-blankToken =
+unfoldable pub blank_token : Token
+blank_token =
     record {
       header = record { ring = record { 0 = 0 }; representative = 0 };
       addressee = 0;
@@ -35,59 +35,59 @@ blankToken =
       round = 0;
       backlog = 0;
       count = 0;
-      requests = replicate mostRequests (record { 0 = 0 });
+      requests = replicate most_requests (record { 0 = 0 });
     }
 
-abbrev pub unreadAs : Refusal → Reading
-unreadAs why = record { answer = Refused why; token = blankToken }
+abbrev pub unread_as : Refusal → Reading
+unread_as why = record { answer = Refused why; token = blank_token }
 
-abbrev pub aMessage : Message → Reading
-aMessage m = record { answer = IsMessage m; token = blankToken }
+abbrev pub a_message : Message → Reading
+a_message m = record { answer = IsMessage m; token = blank_token }
 
-abbrev pub aToken : Token → Reading
-aToken t = record { answer = IsToken; token = t }
+abbrev pub a_token : Token → Reading
+a_token t = record { answer = IsToken; token = t }
 
 -- ---- the questions
 
 -- 10. Has the frame at least 10 bytes, its length exact?
-abbrev pub lengthExact : List ℕ → Bool
-lengthExact s = leb headerSize (length s) && eqb (length s) (ownSize s)
+abbrev pub length_exact : List ℕ → Bool
+length_exact s = leb header_size (length s) && eqb (length s) (own_size s)
 
 -- 12, of a message: is it long enough, the configuration zero, and do its values follow?
-abbrev pub messageReads : List ℕ → Bool
-messageReads s =
-    leb contentAt (length s)
-    && eqb (word_at 4 s configurationAt) configuration
-    && messageFollows (messageOf s) (contentOf s)
+abbrev pub message_reads : List ℕ → Bool
+message_reads s =
+    leb content_at (length s)
+    && eqb (word_at 4 s configuration_at) configuration
+    && message_follows (message_of s) (content_of s)
 
 -- 12, of a token: is it long enough for its fields, of the size that its requests take, and do its values follow?
-abbrev pub tokenReads : List ℕ → Bool
-tokenReads s =
-    leb requestsAt (length s)
-    && leb (requestCount s) mostRequests
-    && eqb (length s) (tokenSize (requestCount s))
-    && tokenFollows (tokenOf s)
+abbrev pub token_reads : List ℕ → Bool
+token_reads s =
+    leb requests_at (length s)
+    && leb (request_count s) most_requests
+    && eqb (length s) (token_size (request_count s))
+    && token_follows (token_of s)
 
-unfoldable pub readMessage : List ℕ → Reading
-readMessage s = cond (messageReads s) (aMessage (messageOf s)) (unreadAs Malformed)
+unfoldable pub read_message : List ℕ → Reading
+read_message s = cond (message_reads s) (a_message (message_of s)) (unread_as Malformed)
 
-unfoldable pub readToken : List ℕ → Reading
-readToken s = cond (tokenReads s) (aToken (tokenOf s)) (unreadAs Malformed)
+unfoldable pub read_token : List ℕ → Reading
+read_token s = cond (token_reads s) (a_token (token_of s)) (unread_as Malformed)
 
 -- 11. Is the kind 1 or 2? The one place that goes by the kind: what holds of a message, of a token, of any other
-abbrev pub byKind : {A : Type 0} → ℕ → A → A → A → A
-byKind kind message token other = cond (eqb kind messageKind) message (cond (eqb kind tokenKind) token other)
+abbrev pub by_kind : {A : Type 0} → ℕ → A → A → A → A
+by_kind kind message token other = cond (eqb kind message_kind) message (cond (eqb kind token_kind) token other)
 
 -- the values, or the first question that is answered 'no'
 unfoldable pub read_of : List ℕ → Reading
 read_of s =
-    cond (lengthExact s)
-    (byKind (word_at 2 s kind_at) (readMessage s) (readToken s) (unreadAs OtherKind))
-    (unreadAs WrongLength)
+    cond (length_exact s)
+    (by_kind (word_at 2 s kind_at) (read_message s) (read_token s) (unread_as OtherKind))
+    (unread_as WrongLength)
 
 -- the same in document 01's numbers: the first question that is answered 'no', or 0
-unfoldable pub readNumber : List ℕ → ℕ
-readNumber s =
-    cond (lengthExact s)
-    (byKind (word_at 2 s kind_at) (cond (messageReads s) 0 12) (cond (tokenReads s) 0 12) 11)
+unfoldable pub read_number : List ℕ → ℕ
+read_number s =
+    cond (length_exact s)
+    (by_kind (word_at 2 s kind_at) (cond (message_reads s) 0 12) (cond (token_reads s) 0 12) 11)
     10

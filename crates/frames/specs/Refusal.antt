@@ -3,8 +3,8 @@ use Rattle.std.specs.Prelude.{ℕ}
 use Rattle.frames.specs.declared.refusal.Refusal.{Refusal}
 use Rattle.frames.specs.declared.refusal.Refusal.TheVariants.{NoRoom, WrongLength, OtherKind, Malformed}
 
-abbrev pub frameRefusalNumber : Refusal → ℕ
-frameRefusalNumber NoRoom = 1
-frameRefusalNumber WrongLength = 10
-frameRefusalNumber OtherKind = 11
-frameRefusalNumber Malformed = 12
+abbrev pub frame_refusal_number : Refusal → ℕ
+frame_refusal_number NoRoom = 1
+frame_refusal_number WrongLength = 10
+frame_refusal_number OtherKind = 11
+frame_refusal_number Malformed = 12

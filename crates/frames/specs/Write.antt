@@ -1,9 +1,9 @@
 -- Writing a frame into a lent buffer: question 12, then 1 with the frame's own size. [document 01, Questions at the door]
 use Rattle.std.specs.Prelude.{ℕ, Bool, cond, List, ◌++◌, length, drop, leb}
-use Rattle.frames.specs.Layout.{mostRequests}
-use Rattle.frames.specs.Refusal.{frameRefusalNumber}
-use Rattle.frames.specs.Message.{messageFollows, messageBytes}
-use Rattle.frames.specs.Token.{tokenFollows, tokenBytes}
+use Rattle.frames.specs.Layout.{most_requests}
+use Rattle.frames.specs.Refusal.{frame_refusal_number}
+use Rattle.frames.specs.Message.{message_follows, message_bytes}
+use Rattle.frames.specs.Token.{token_follows, token_bytes}
 use Rattle.frames.specs.declared.writer.Written.{Written}
 use Rattle.frames.specs.declared.writer.Written.TheVariants.{Size, Refused}
 use Rattle.frames.specs.declared.message.Message.{Message}
@@ -14,9 +14,9 @@ pub record WriteOutcome : Type 0 where
   pub number : ℕ
   pub count : ℕ
 
-abbrev pub writeOutcomeOf : Written → WriteOutcome
-writeOutcomeOf (Size n) = record { number = 0; count = n }
-writeOutcomeOf (Refused why) = record { number = frameRefusalNumber why; count = 0 }
+abbrev pub write_outcome_of : Written → WriteOutcome
+write_outcome_of (Size n) = record { number = 0; count = n }
+write_outcome_of (Refused why) = record { number = frame_refusal_number why; count = 0 }
 
 -- the outcome, and the whole buffer afterwards
 pub record Writing : Type 0 where
@@ -24,29 +24,29 @@ pub record Writing : Type 0 where
   pub out : List ℕ
 
 -- the frame's bytes, followed by what stood after them; a refusal leaves every byte as it was
-unfoldable pub writingOf : Bool → List ℕ → List ℕ → Writing
-writingOf follows frame out =
+unfoldable pub writing_of : Bool → List ℕ → List ℕ → Writing
+writing_of follows frame out =
     cond follows
     (cond (leb (length frame) (length out))
     (record { outcome = record { number = 0; count = length frame }; out = frame ++ drop (length frame) out })
     (record { outcome = record { number = 1; count = 0 }; out = out }))
     (record { outcome = record { number = 12; count = 0 }; out = out })
 
-abbrev pub messageWritten : Message → List ℕ → List ℕ → Writing
-messageWritten m content out = writingOf (messageFollows m content) (messageBytes m content) out
+abbrev pub message_written : Message → List ℕ → List ℕ → Writing
+message_written m content out = writing_of (message_follows m content) (message_bytes m content) out
 
-abbrev pub tokenWritten : Token → List ℕ → Writing
-tokenWritten t out = writingOf (tokenFollows t) (tokenBytes t) out
+abbrev pub token_written : Token → List ℕ → Writing
+token_written t out = writing_of (token_follows t) (token_bytes t) out
 
 -- ---- a frame whose values are known to follow the layout: 12 is not asked again
 
 -- the frame's bytes, followed by what stood after them, where there is room; else every byte as it was
-unfoldable pub framePut : List ℕ → List ℕ → List ℕ
-framePut frame out = cond (leb (length frame) (length out)) (frame ++ drop (length frame) out) out
+unfoldable pub frame_put : List ℕ → List ℕ → List ℕ
+frame_put frame out = cond (leb (length frame) (length out)) (frame ++ drop (length frame) out) out
 
-abbrev pub messagePut : Message → List ℕ → List ℕ → List ℕ
-messagePut m content out = framePut (messageBytes m content) out
+abbrev pub message_put : Message → List ℕ → List ℕ → List ℕ
+message_put m content out = frame_put (message_bytes m content) out
 
 -- there are 16 places for requests, and no frame for a count of more
-unfoldable pub tokenPut : Token → List ℕ → List ℕ
-tokenPut t out = cond (leb t.count mostRequests) (framePut (tokenBytes t) out) out
+unfoldable pub token_put : Token → List ℕ → List ℕ
+token_put t out = cond (leb t.count most_requests) (frame_put (token_bytes t) out) out

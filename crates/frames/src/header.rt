@@ -1,8 +1,8 @@
 // What every frame begins with: length, kind, ring number, representative's id.
 ghost use Rattle.std.specs.Prelude.{◌≡◌, ◌≤◌, length};
 ghost use Rattle.std.proofs.lemmas.List.Edits.{sets};
-ghost use Rattle.frames.specs.Header.{framedSize, headerOf, headerFollows, headerBytes};
-ghost use Rattle.frames.specs.Layout.{lengthSize, mostFramed, headerSize};
+ghost use Rattle.frames.specs.Header.{framed_size, header_of, header_follows, header_bytes};
+ghost use Rattle.frames.specs.Layout.{length_size, most_framed, header_size};
 
 use crate::number::RingNumber;
 use crate::{layout, number};
@@ -17,8 +17,8 @@ pub struct Header {
 // field has not come whole. Ruled out: the length field's own bytes not counted; a guess from one
 // byte.
 pub fn framed_size(stream: &[u8]) -> usize
-    ensures value { result ≡ framedSize stream.now }
-    ensures upper_bound { result ≤ mostFramed }
+    ensures value { result ≡ framed_size stream.now }
+    ensures upper_bound { result ≤ most_framed }
 {
     if stream.len() < layout::LENGTH_SIZE {
         return 0;
@@ -27,8 +27,8 @@ pub fn framed_size(stream: &[u8]) -> usize
 }
 
 pub fn header_of(frame: &[u8]) -> Header
-    requires { headerSize ≤ length frame.now }
-    ensures { result ≡ headerOf frame.now }
+    requires { header_size ≤ length frame.now }
+    ensures { result ≡ header_of frame.now }
 {
     Header {
         ring: RingNumber(words::get_u32(frame, layout::RING_AT)),
@@ -37,15 +37,15 @@ pub fn header_of(frame: &[u8]) -> Header
 }
 
 pub fn header_follows(h: Header) -> bool
-    ensures { result ≡ headerFollows h }
+    ensures { result ≡ header_follows h }
 {
     number::is_number(h.ring.0) & number::is_id(h.representative)
 }
 
 // The header of a frame of `size` bytes in all; the length field has the low two bytes of what follows it.
 pub fn put_header(out: &mut [u8], size: usize, kind: u16, h: Header)
-    requires { (headerSize ≤ length out.old) × (lengthSize ≤ size) }
-    ensures { out.new ≡ sets out.old 0 (headerBytes size kind h) }
+    requires { (header_size ≤ length out.old) × (length_size ≤ size) }
+    ensures { out.new ≡ sets out.old 0 (header_bytes size kind h) }
 {
     let length = size - layout::LENGTH_SIZE;
     words::put_u16(out, layout::LENGTH_AT, (length % 65536) as u16);

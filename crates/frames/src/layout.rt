@@ -1,7 +1,7 @@
 // Where each field of a frame stands, in bytes from the frame's first. Nothing outside this crate
 // knows a place.
 ghost use Rattle.std.specs.Prelude.{◌≡◌};
-ghost use Rattle.frames.specs.Layout.{tokenSize};
+ghost use Rattle.frames.specs.Layout.{token_size};
 
 pub const LENGTH_AT: usize = 0;
 
@@ -73,7 +73,7 @@ pub const LONGEST_TOKEN: usize = REQUESTS_AT + 4 * MOST_REQUESTS;
 
 // The size of a token with n requests.
 pub fn token_size(n: u16) -> usize
-    ensures { result ≡ tokenSize n }
+    ensures { result ≡ token_size n }
 {
     REQUESTS_AT + 4 * (n as usize)
 }

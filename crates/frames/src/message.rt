@@ -1,7 +1,7 @@
 // Kind 1, message: its values, the content apart.
 ghost use Rattle.std.specs.Prelude.{◌≡◌, ◌≤◌, length};
-ghost use Rattle.frames.specs.Message.{messageOf, contentOf, messageFollows};
-ghost use Rattle.frames.specs.Layout.{contentAt};
+ghost use Rattle.frames.specs.Message.{message_of, content_of, message_follows};
+ghost use Rattle.frames.specs.Layout.{content_at};
 
 use crate::header::Header;
 use crate::number::MessageNumber;
@@ -17,8 +17,8 @@ pub struct Message {
 }
 
 pub fn message_of(frame: &[u8]) -> Message
-    requires { contentAt ≤ length frame.now }
-    ensures { result ≡ messageOf frame.now }
+    requires { content_at ≤ length frame.now }
+    ensures { result ≡ message_of frame.now }
 {
     Message {
         header: header::header_of(frame),
@@ -32,7 +32,7 @@ pub fn message_of(frame: &[u8]) -> Message
 // nothing of a frame that has no such place. Ruled out: a part that starts a byte late; a short
 // frame's own bytes.
 pub fn content(frame: &[u8]) -> &[u8]
-    ensures { result.now ≡ contentOf frame.now }
+    ensures { result.now ≡ content_of frame.now }
 {
     if frame.len() < layout::CONTENT_AT {
         return &frame[..0];
@@ -42,7 +42,7 @@ pub fn content(frame: &[u8]) -> &[u8]
 
 // Question 12 of a message's values. Ruled out: id 0 taken; content of 65 bytes taken.
 pub fn message_follows(m: Message, content: &[u8]) -> bool
-    ensures { result ≡ messageFollows m content.now }
+    ensures { result ≡ message_follows m content.now }
 {
     header::header_follows(m.header)
         & number::is_id(m.sender)

@@ -1,6 +1,6 @@
 // The three counters, each a type of its own so that none can stand for another, and ids.
 ghost use Rattle.std.specs.Prelude.{◌≡◌};
-ghost use Rattle.frames.specs.Number.{is_number, isId};
+ghost use Rattle.frames.specs.Number.{is_number, is_id};
 
 #[derive(Drop)]
 pub struct RingNumber(pub u32);
@@ -24,7 +24,7 @@ pub fn is_number(n: u32) -> bool
 
 // A member's id. Ruled out: 0 taken; 65,535 refused.
 pub fn is_id(id: u16) -> bool
-    ensures { result ≡ isId id }
+    ensures { result ≡ is_id id }
 {
     (1 <= id) & (id <= MOST_ID)
 }

@@ -1,6 +1,6 @@
 // The reader.
 ghost use Rattle.std.specs.Prelude.{◌≡◌};
-ghost use Rattle.frames.specs.Read.{read_of, readNumber, readMessage, readToken, blankToken, unreadAs, answerNumber};
+ghost use Rattle.frames.specs.Read.{read_of, read_number, read_message, read_token, blank_token, unread_as, answer_number};
 
 use crate::header::Header;
 use crate::message::Message;
@@ -26,7 +26,7 @@ pub struct Reading {
 }
 
 fn blank_token() -> Token
-    ensures { result ≡ blankToken }
+    ensures { result ≡ blank_token }
 {
     Token {
         header: Header {
@@ -46,7 +46,7 @@ fn blank_token() -> Token
 }
 
 fn refuse(why: Refusal) -> Reading
-    ensures { result ≡ unreadAs why }
+    ensures { result ≡ unread_as why }
 {
     Reading {
         answer: Answer::Refused(why),
@@ -55,7 +55,7 @@ fn refuse(why: Refusal) -> Reading
 }
 
 fn read_message(frame: &[u8]) -> Reading
-    ensures { result ≡ readMessage frame.now }
+    ensures { result ≡ read_message frame.now }
 {
     if frame.len() < layout::CONTENT_AT {
         return refuse(Refusal::Malformed);
@@ -74,7 +74,7 @@ fn read_message(frame: &[u8]) -> Reading
 }
 
 fn read_token(frame: &[u8]) -> Reading
-    ensures { result ≡ readToken frame.now }
+    ensures { result ≡ read_token frame.now }
 {
     if frame.len() < layout::REQUESTS_AT {
         return refuse(Refusal::Malformed);
@@ -100,7 +100,7 @@ fn read_token(frame: &[u8]) -> Reading
 // token taken for a message; 12 where the length is wrong already.
 pub fn read(frame: &[u8]) -> Reading
     ensures value { result ≡ read_of frame.now }
-    ensures answer_value { answerNumber result.answer ≡ readNumber frame.now }
+    ensures answer_value { answer_number result.answer ≡ read_number frame.now }
 {
     if frame.len() < layout::HEADER_SIZE {
         return refuse(Refusal::WrongLength);

@@ -1,6 +1,6 @@
 // Why a frame is not read or not written.
 ghost use Rattle.std.specs.Prelude.{◌≡◌};
-ghost use Rattle.frames.specs.Refusal.{frameRefusalNumber};
+ghost use Rattle.frames.specs.Refusal.{frame_refusal_number};
 
 #[derive(Drop)]
 pub enum Refusal {
@@ -16,7 +16,7 @@ pub enum Refusal {
 
 // The question's number in document 01. Ruled out: one number for all; 11 and 12 swapped.
 pub fn refusal_number(r: Refusal) -> u16
-    ensures { result ≡ frameRefusalNumber r }
+    ensures { result ≡ frame_refusal_number r }
 {
     match r {
         Refusal::NoRoom => 1,

@@ -1,7 +1,7 @@
 // Kind 2, token: its values.
 ghost use Rattle.std.specs.Prelude.{◌≡◌, ◌≤◌, length};
-ghost use Rattle.frames.specs.Token.{blockerOf, blockerId, blockerFollows, numbersIn, numbered, requestsOf, requestsFollow, requestCount, tokenOf, tokenFollows};
-ghost use Rattle.frames.specs.Layout.{mostRequests, tokenSize};
+ghost use Rattle.frames.specs.Token.{blocker_of, blocker_id, blocker_follows, numbers_in, numbered, requests_of, requests_follow, request_count, token_of, token_follows};
+ghost use Rattle.frames.specs.Layout.{most_requests, token_size};
 
 use crate::header::Header;
 use crate::number::{MessageNumber, TokenNumber};
@@ -34,7 +34,7 @@ pub struct Token {
 }
 
 pub fn blocker_of(id: u16) -> Blocker
-    ensures { result ≡ blockerOf id }
+    ensures { result ≡ blocker_of id }
 {
     if id == 0 {
         Blocker::Nobody
@@ -44,7 +44,7 @@ pub fn blocker_of(id: u16) -> Blocker
 }
 
 pub fn blocker_id(b: Blocker) -> u16
-    ensures { result ≡ blockerId b }
+    ensures { result ≡ blocker_id b }
 {
     match b {
         Blocker::Nobody => 0,
@@ -53,7 +53,7 @@ pub fn blocker_id(b: Blocker) -> u16
 }
 
 fn blocker_follows(b: Blocker, aru: u32, highest: u32) -> bool
-    ensures { result ≡ blockerFollows b aru highest }
+    ensures { result ≡ blocker_follows b aru highest }
 {
     match b {
         Blocker::Nobody => aru == highest,
@@ -63,7 +63,7 @@ fn blocker_follows(b: Blocker, aru: u32, highest: u32) -> bool
 
 // The numbers in a token's places. Ruled out: the last place left 0; two places changed over.
 pub fn numbers_in(requests: [MessageNumber; layout::MOST_REQUESTS]) -> [u32; layout::MOST_REQUESTS]
-    ensures { result ≡ numbersIn requests }
+    ensures { result ≡ numbers_in requests }
 {
     let mut numbers = [0u32; layout::MOST_REQUESTS];
     let mut i = 0;
@@ -88,8 +88,8 @@ pub fn numbered(numbers: [u32; layout::MOST_REQUESTS]) -> [MessageNumber; layout
 }
 
 fn requests_of(frame: &[u8], n: u16) -> [u32; layout::MOST_REQUESTS]
-    requires { (n ≤ mostRequests) × (tokenSize n ≤ length frame.now) }
-    ensures { result ≡ requestsOf n frame.now }
+    requires { (n ≤ most_requests) × (token_size n ≤ length frame.now) }
+    ensures { result ≡ requests_of n frame.now }
 {
     let mut requests = [0u32; layout::MOST_REQUESTS];
     words::get_u32s(frame, layout::REQUESTS_AT, n as usize, &mut requests);
@@ -97,8 +97,8 @@ fn requests_of(frame: &[u8], n: u16) -> [u32; layout::MOST_REQUESTS]
 }
 
 fn requests_follow(count: u16, requests: &[u32], highest: u32) -> bool
-    requires { length requests.now ≡ mostRequests }
-    ensures { result ≡ requestsFollow count requests.now highest }
+    requires { length requests.now ≡ most_requests }
+    ensures { result ≡ requests_follow count requests.now highest }
 {
     let n = count as usize;
     if layout::MOST_REQUESTS < n {
@@ -111,8 +111,8 @@ fn requests_follow(count: u16, requests: &[u32], highest: u32) -> bool
 
 // The values of a token frame with n requests.
 pub fn token_of(frame: &[u8], n: u16) -> Token
-    requires { (n ≡ requestCount frame.now) × (n ≤ mostRequests) × (tokenSize n ≤ length frame.now) }
-    ensures { result ≡ tokenOf frame.now }
+    requires { (n ≡ request_count frame.now) × (n ≤ most_requests) × (token_size n ≤ length frame.now) }
+    ensures { result ≡ token_of frame.now }
 {
     Token {
         header: header::header_of(frame),
@@ -130,7 +130,7 @@ pub fn token_of(frame: &[u8], n: u16) -> Token
 
 // Question 12 of a token's values. Ruled out: aru above the highest taken; a request twice taken.
 pub fn token_follows(t: Token) -> bool
-    ensures { result ≡ tokenFollows t }
+    ensures { result ≡ token_follows t }
 {
     let places = t.requests;
     let requests = numbers_in(places);

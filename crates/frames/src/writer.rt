@@ -1,10 +1,10 @@
 // The writers.
 ghost use Rattle.std.specs.Prelude.{◌≡◌, ◌≤◌, length};
 ghost use Rattle.std.proofs.lemmas.List.Edits.{sets};
-ghost use Rattle.frames.specs.Layout.{contentAt, roundAt, requestsAt, mostRequests};
-ghost use Rattle.frames.specs.Message.{messageFixed};
-ghost use Rattle.frames.specs.Token.{tokenCounts, tokenFixed};
-ghost use Rattle.frames.specs.Write.{writeOutcomeOf, messageWritten, tokenWritten, messagePut, tokenPut};
+ghost use Rattle.frames.specs.Layout.{content_at, round_at, requests_at, most_requests};
+ghost use Rattle.frames.specs.Message.{message_fixed};
+ghost use Rattle.frames.specs.Token.{token_counts, token_fixed};
+ghost use Rattle.frames.specs.Write.{write_outcome_of, message_written, token_written, message_put, token_put};
 
 use crate::message::Message;
 use crate::refusal::Refusal;
@@ -20,8 +20,8 @@ pub enum Written {
 
 // The bytes before the content, of a frame of `size` bytes in all.
 fn put_message_fixed(out: &mut [u8], m: Message, size: usize)
-    requires { (contentAt ≤ length out.old) × (contentAt ≤ size) }
-    ensures { out.new ≡ sets out.old 0 (messageFixed m size) }
+    requires { (content_at ≤ length out.old) × (content_at ≤ size) }
+    ensures { out.new ≡ sets out.old 0 (message_fixed m size) }
 {
     header::put_header(out, size, layout::MESSAGE_KIND, m.header);
     words::put_u16(out, layout::SENDER_AT, m.sender);
@@ -34,7 +34,7 @@ fn put_message_fixed(out: &mut [u8], m: Message, size: usize)
 // asked, and where there is none `out` is left alone. Ruled out: a byte past the frame changed; a content that
 // starts a byte late.
 pub fn put_message(m: Message, content: &[u8], out: &mut [u8])
-    ensures { out.new ≡ messagePut m content.now out.old }
+    ensures { out.new ≡ message_put m content.now out.old }
 {
     let size = layout::CONTENT_AT + content.len();
     if out.len() < size {
@@ -47,8 +47,8 @@ pub fn put_message(m: Message, content: &[u8], out: &mut [u8])
 // Writes a message frame to the front of `out`. Ruled out: a malformed one written; a buffer one byte short
 // taken.
 pub fn write_message(m: Message, content: &[u8], out: &mut [u8]) -> Written
-    ensures result_value { writeOutcomeOf result ≡ (messageWritten m content.now out.old).outcome }
-    ensures out_after { out.new ≡ (messageWritten m content.now out.old).out }
+    ensures result_value { write_outcome_of result ≡ (message_written m content.now out.old).outcome }
+    ensures out_after { out.new ≡ (message_written m content.now out.old).out }
 {
     if !message::message_follows(m, content) {
         return Written::Refused(Refusal::Malformed);
@@ -63,8 +63,8 @@ pub fn write_message(m: Message, content: &[u8], out: &mut [u8]) -> Written
 
 // The round count, the backlog and the number of requests.
 fn put_counts(out: &mut [u8], t: Token)
-    requires { requestsAt ≤ length out.old }
-    ensures { out.new ≡ sets out.old roundAt (tokenCounts t) }
+    requires { requests_at ≤ length out.old }
+    ensures { out.new ≡ sets out.old round_at (token_counts t) }
 {
     words::put_u16(out, layout::ROUND_AT, t.round);
     words::put_u16(out, layout::BACKLOG_AT, t.backlog);
@@ -73,8 +73,8 @@ fn put_counts(out: &mut [u8], t: Token)
 
 // The bytes before the requests.
 fn put_token_fixed(out: &mut [u8], t: Token)
-    requires { (requestsAt ≤ length out.old) × (t.count ≤ mostRequests) }
-    ensures { out.new ≡ sets out.old 0 (tokenFixed t) }
+    requires { (requests_at ≤ length out.old) × (t.count ≤ most_requests) }
+    ensures { out.new ≡ sets out.old 0 (token_fixed t) }
 {
     let blocker = t.blocker;
     header::put_header(
@@ -95,7 +95,7 @@ fn put_token_fixed(out: &mut [u8], t: Token)
 // room are asked, and where one is wrong `out` is left alone. Ruled out: requests left out; a byte past the frame
 // changed.
 pub fn put_token(t: Token, out: &mut [u8])
-    ensures { out.new ≡ tokenPut t out.old }
+    ensures { out.new ≡ token_put t out.old }
 {
     let places = t.requests;
     let requests = token::numbers_in(places);
@@ -113,8 +113,8 @@ pub fn put_token(t: Token, out: &mut [u8])
 // Writes a token frame to the front of `out`. Ruled out: a malformed one written; a refusal that has written
 // the header already.
 pub fn write_token(t: Token, out: &mut [u8]) -> Written
-    ensures result_value { writeOutcomeOf result ≡ (tokenWritten t out.old).outcome }
-    ensures out_after { out.new ≡ (tokenWritten t out.old).out }
+    ensures result_value { write_outcome_of result ≡ (token_written t out.old).outcome }
+    ensures out_after { out.new ≡ (token_written t out.old).out }
 {
     if !token::token_follows(t) {
         return Written::Refused(Refusal::Malformed);

@@ -11,11 +11,11 @@ use Rattle.ordering.proofs.Base.{leb-cases, eqb-cases, none-some, some_same}
 
 -- ---- whose turn it is, and for how many visits a place waits
 
-unfoldable pub turnAfter : ℕ → ℕ → ℕ
-turnAfter n turn = cond (eqb (suc turn) n) 0 (suc turn)
+unfoldable pub turn_after : ℕ → ℕ → ℕ
+turn_after n turn = cond (eqb (suc turn) n) 0 (suc turn)
 
-pub turn-cases : (n turn : ℕ) → ((suc turn ≡ n) × (turnAfter n turn ≡ 0)) ⊎ ((suc turn ≢ n) × (turnAfter n turn ≡ suc turn))
-unfolding turnAfter
+pub turn-cases : (n turn : ℕ) → ((suc turn ≡ n) × (turn_after n turn ≡ 0)) ⊎ ((suc turn ≢ n) × (turn_after n turn ≡ suc turn))
+unfolding turn_after
 turn-cases n turn = ⊎_elim (λ w. inl (w.1, rw w.0)) (λ w. inr (w.1, rw w.0)) (eqb-cases (suc turn) n)
 
 unfoldable pub waits : ℕ → ℕ → ℕ → ℕ
@@ -26,7 +26,7 @@ unfolding waits
 waits-cases n turn p = ⊎_elim (λ w. inl (w.1, rw w.0)) (λ w. inr (w.1, rw w.0)) (leb-cases turn p)
 
 module _ (n turn : ℕ) (here : turn < n) where
-  pub turn_in : turnAfter n turn < n
+  pub turn_in : turn_after n turn < n
   turn_in = ⊎_elim (λ w. omega arith) (λ w. omega arith) (turn-cases n turn)
 
   pub waits-none : waits n turn turn ≡ 0
@@ -39,24 +39,24 @@ module _ (n turn : ℕ) (here : turn < n) where
   waits-few p h = ⊎_elim (λ w. omega arith) (λ w. omega arith) (waits-cases n turn p)
 
   -- it waits again for all the others
-  pub waits-most : suc (waits n (turnAfter n turn) turn) ≡ n
+  pub waits-most : suc (waits n (turn_after n turn) turn) ≡ n
   waits-most =
       ⊎_elim
-      (λ t. ⊎_elim (λ w. omega arith) (λ w. omega arith) (waits-cases n (turnAfter n turn) turn))
-      (λ t. ⊎_elim (λ w. omega arith) (λ w. omega arith) (waits-cases n (turnAfter n turn) turn))
+      (λ t. ⊎_elim (λ w. omega arith) (λ w. omega arith) (waits-cases n (turn_after n turn) turn))
+      (λ t. ⊎_elim (λ w. omega arith) (λ w. omega arith) (waits-cases n (turn_after n turn) turn))
       (turn-cases n turn)
 
   -- everybody else waits for one visit less
-  pub waits-less : (p : ℕ) → p < n → p ≢ turn → waits n turn p ≡ suc (waits n (turnAfter n turn) p)
+  pub waits-less : (p : ℕ) → p < n → p ≢ turn → waits n turn p ≡ suc (waits n (turn_after n turn) p)
   waits-less p h d =
       ⊎_elim
       (λ t. ⊎_elim
-      (λ w. ⊎_elim (λ v. omega arith) (λ v. omega arith) (waits-cases n (turnAfter n turn) p))
-      (λ w. ⊎_elim (λ v. omega arith) (λ v. omega arith) (waits-cases n (turnAfter n turn) p))
+      (λ w. ⊎_elim (λ v. omega arith) (λ v. omega arith) (waits-cases n (turn_after n turn) p))
+      (λ w. ⊎_elim (λ v. omega arith) (λ v. omega arith) (waits-cases n (turn_after n turn) p))
       (waits-cases n turn p))
       (λ t. ⊎_elim
-      (λ w. ⊎_elim (λ v. omega arith) (λ v. omega arith) (waits-cases n (turnAfter n turn) p))
-      (λ w. ⊎_elim (λ v. omega arith) (λ v. omega arith) (waits-cases n (turnAfter n turn) p))
+      (λ w. ⊎_elim (λ v. omega arith) (λ v. omega arith) (waits-cases n (turn_after n turn) p))
+      (λ w. ⊎_elim (λ v. omega arith) (λ v. omega arith) (waits-cases n (turn_after n turn) p))
       (waits-cases n turn p))
       (turn-cases n turn)
 
@@ -156,15 +156,15 @@ module _ (n turn highest aru : ℕ) (b : Option ℕ) (arus levels : ℕ → ℕ)
       ]
 
   -- a blocker visited since q still is
-  since-stays : (v q : ℕ) → v < n → q < n → v ≢ turn → q ≢ turn → waits n turn q < waits n turn v → waits n (turnAfter n turn) q < waits n (turnAfter n turn) v
+  since-stays : (v q : ℕ) → v < n → q < n → v ≢ turn → q ≢ turn → waits n turn q < waits n turn v → waits n (turn_after n turn) q < waits n (turn_after n turn) v
   since-stays v q hv hq dv dq s = omega (arith, waits-less n turn r.here v hv dv, waits-less n turn r.here q hq dq)
 
   -- the visited place is now the one visited last
-  since-here : (q : ℕ) → q < n → q ≢ turn → waits n (turnAfter n turn) q < waits n (turnAfter n turn) turn
+  since-here : (q : ℕ) → q < n → q ≢ turn → waits n (turn_after n turn) q < waits n (turn_after n turn) turn
   since-here q hq dq = omega (arith, waits-most n turn r.here, waits-less n turn r.here q hq dq, waits-few n turn r.here q hq)
 
   -- the blocker after the visit, seen from another place
-  since-after : (q : ℕ) → q < n → q ≢ turn → Since n turn b q → Lowered turn level' highest' aru b aru' b' → (aru' ≡ highest') ⊎ Since n (turnAfter n turn) b' q
+  since-after : (q : ℕ) → q < n → q ≢ turn → Since n turn b q → Lowered turn level' highest' aru b aru' b' → (aru' ≡ highest') ⊎ Since n (turn_after n turn) b' q
   since-after q h d s (stays v e dv k a f) =
       let u : s.0 ≡ v = some_same s.1 e in
       inr (v, f, since-stays v q (r.placed v e) h dv d (subst (λ k. waits n turn q < waits n turn k) u s.2))
@@ -175,18 +175,18 @@ module _ (n turn highest aru : ℕ) (b : Option ℕ) (arus levels : ℕ → ℕ)
   aru-top q h = omega (arith, r.own q h, r.top q h)
 
   newer-other : (q : ℕ) → q < n → q ≢ turn → Lowered turn level' highest' aru b aru' b'
-      → (arus q ≤ aru) ⊎ Since n turn b q → (arus q ≤ aru') ⊎ Since n (turnAfter n turn) b' q
+      → (arus q ≤ aru) ⊎ Since n turn b q → (arus q ≤ aru') ⊎ Since n (turn_after n turn) b' q
   newer-other q h d l (inr s) = ⊎_elim (λ e. inl (omega (arith, aru-top q h))) inr (since-after q h d s l)
   newer-other q h d (stays v e dv k a f) (inl x) = inl (omega arith)
   newer-other q h d (blocks s k a f) (inl x) = inr (turn, f, since-here q h d)
   newer-other q h d (frees s k a f) (inl x) = inl (omega (arith, aru-top q h))
 
-  below-here : (q : ℕ) → q < n → q ≢ turn → (arus q ≤ level') ⊎ ((aru' ≤ level') × Since n (turnAfter n turn) b' q)
+  below-here : (q : ℕ) → q < n → q ≢ turn → (arus q ≤ level') ⊎ ((aru' ≤ level') × Since n (turn_after n turn) b' q)
   below-here q h d =
       ⊎_elim (λ k. inl (omega (arith, lowered-level how))) (λ s. inr (lowered-level how, s)) (newer-other q h d how (r.newer q h))
 
   below_other : (q s : ℕ) → q < n → s < n → q ≢ turn → s ≢ turn → waits n turn q < waits n turn s
-      → (arus q ≤ levels s) ⊎ ((aru' ≤ levels s) × Since n (turnAfter n turn) b' q)
+      → (arus q ≤ levels s) ⊎ ((aru' ≤ levels s) × Since n (turn_after n turn) b' q)
   below_other q s hq hs dq ds w =
       ⊎_elim
       inl
@@ -204,7 +204,7 @@ module _ (n turn highest aru : ℕ) (b : Option ℕ) (arus levels : ℕ → ℕ)
       → arus' turn ≡ aru'
       → levels' turn ≡ level'
       → ((q : ℕ) → q ≢ turn → (arus' q ≡ arus q) × (levels' q ≡ levels q))
-      → Rules n (turnAfter n turn) highest' aru' b' arus' levels'
+      → Rules n (turn_after n turn) highest' aru' b' arus' levels'
   rules-visit arus' levels' most ea el other =
       record {
         here = turn_in n turn r.here;
@@ -214,13 +214,13 @@ module _ (n turn highest aru : ℕ) (b : Option ℕ) (arus levels : ℕ → ℕ)
         top = λ q h. by q (λ k. levels' k ≤ highest') (omega arith) (λ d. omega (arith, other q d, r.top q h));
         own = λ q h. by q (λ k. arus' k ≤ levels' k) (omega (arith, lowered-level how)) (λ d. omega (arith, other q d, r.own q h));
         newer = λ q h.
-            by q (λ k. (arus' k ≤ aru') ⊎ Since n (turnAfter n turn) b' k) (inl (omega arith))
+            by q (λ k. (arus' k ≤ aru') ⊎ Since n (turn_after n turn) b' k) (inl (omega arith))
             (λ d. ⊎_elim (λ k. inl (omega (arith, other q d))) inr (newer-other q h d how (r.newer q h)));
         below = λ q s hq hs w.
-            by q (λ k. waits n (turnAfter n turn) k < waits n (turnAfter n turn) s → (arus' k ≤ levels' s) ⊎ ((aru' ≤ levels' s) × Since n (turnAfter n turn) b' k))
-            (λ v. absurd (omega (arith, waits-most n turn r.here, waits-few n (turnAfter n turn) (turn_in n turn r.here) s hs)))
+            by q (λ k. waits n (turn_after n turn) k < waits n (turn_after n turn) s → (arus' k ≤ levels' s) ⊎ ((aru' ≤ levels' s) × Since n (turn_after n turn) b' k))
+            (λ v. absurd (omega (arith, waits-most n turn r.here, waits-few n (turn_after n turn) (turn_in n turn r.here) s hs)))
             (λ dq.
-            by s (λ k. waits n (turnAfter n turn) q < waits n (turnAfter n turn) k → (arus' q ≤ levels' k) ⊎ ((aru' ≤ levels' k) × Since n (turnAfter n turn) b' q))
+            by s (λ k. waits n (turn_after n turn) q < waits n (turn_after n turn) k → (arus' q ≤ levels' k) ⊎ ((aru' ≤ levels' k) × Since n (turn_after n turn) b' q))
             (λ v. ⊎_elim (λ k. inl (omega (arith, other q dq))) (λ k. inr (omega (arith, k.0), k.1)) (below-here q hq dq))
             (λ ds v.
             ⊎_elim (λ k. inl (omega (arith, other q dq, other s ds))) (λ k. inr (omega (arith, k.0, other s ds), k.1))

@@ -9,9 +9,9 @@ use lib.ListN.{length}
 use Rattle.ordering.specs.Lists.{Distinct}
 use Rattle.ordering.specs.inner.Frame.{Token}
 use Rattle.ordering.specs.inner.Station.{Station, heard}
-use Rattle.ordering.specs.inner.Visit.{Choice, heldAfter, levelAfter, aruAfter, blockerAfter, tokenAfter, visited}
+use Rattle.ordering.specs.inner.Visit.{Choice, held_after, level_after, aru_after, blocker_after, token_after, visited}
 use Rattle.ordering.specs.inner.History.{newest}
-use Rattle.ordering.specs.inner.Run.{Ring, Call, quiet, hearing, visiting, resending, stationOf, event, step, update, Possible}
+use Rattle.ordering.specs.inner.Run.{Ring, Call, quiet, hearing, visiting, resending, station_of, event, step, update, Possible}
 use Rattle.ordering.proofs.Base.{some_same}
 use Rattle.ordering.proofs.Store.{level-up}
 use Rattle.ordering.proofs.Cable.{newest-same, newest-new}
@@ -31,8 +31,8 @@ pub record Visit (t t' : Token) (s s' : Station) : Type 0 where
   pub safe-is : s'.safe ≡ max s.safe (min s.aru t'.aru)
   pub level : s.level ≤ s'.level
 
-pub visit-is : (s : Station) (t : Token) (c : Choice) → Visit t (tokenAfter s t c) s (visited s t c)
-unfolding tokenAfter visited
+pub visit-is : (s : Station) (t : Token) (c : Choice) → Visit t (token_after s t c) s (visited s t c)
+unfolding token_after visited
 visit-is s t c =
     record {
       aru = aru (lowers-cases s t c);
@@ -43,25 +43,25 @@ visit-is s t c =
       level = up;
     }
   where
-    up : s.level ≤ levelAfter s t c
-    up = level-up (heldAfter s t c) s.level
+    up : s.level ≤ level_after s t c
+    up = level-up (held_after s t c) s.level
 
-    aru : Lowers s t c → (aruAfter s t c ≡ t.aru) ⊎ (s.level ≤ aruAfter s t c)
+    aru : Lowers s t c → (aru_after s t c ≡ t.aru) ⊎ (s.level ≤ aru_after s t c)
     aru (leaves id e d k a b) = inl a
     aru (says why a b) = inr (omega (arith, a, up))
 
-    blocker : Lowers s t c → (blockerAfter s t c ≡ t.blocker) ⊎ (s.level ≤ aruAfter s t c)
+    blocker : Lowers s t c → (blocker_after s t c ≡ t.blocker) ⊎ (s.level ≤ aru_after s t c)
     blocker (leaves id e d k a b) = inl b
     blocker (says why a b) = inr (omega (arith, a, up))
 
-    mine : Lowers s t c → t.blocker ≡ some s.own → s.level ≤ aruAfter s t c
+    mine : Lowers s t c → t.blocker ≡ some s.own → s.level ≤ aru_after s t c
     mine (leaves id e d k a b) q = absurd (d (some_same e q))
     mine (says why a b) q = omega (arith, a, up)
 
 -- the call's event, and the newest token before and after
 pub data Change (first : Token) (r r' : Ring) (c : Call) : Type 0 where
-  rests : (event (r.at (stationOf c)) c).forwarded ≡ none → newest first r'.history ≡ newest first r.history → ((q : ℕ) → Marks (r.at q) (r'.at q)) → Change first r r' c
-  turns : (p : ℕ) → stationOf c ≡ p → Visit (newest first r.history) (newest first r'.history) (r.at p) (r'.at p) → ((q : ℕ) → q ≢ p → r'.at q ≡ r.at q) → Change first r r' c
+  rests : (event (r.at (station_of c)) c).forwarded ≡ none → newest first r'.history ≡ newest first r.history → ((q : ℕ) → Marks (r.at q) (r'.at q)) → Change first r r' c
+  turns : (p : ℕ) → station_of c ≡ p → Visit (newest first r.history) (newest first r'.history) (r.at p) (r'.at p) → ((q : ℕ) → q ≢ p → r'.at q ≡ r.at q) → Change first r r' c
 
 marks-update : (p : ℕ) (s' : Station) (at : ℕ → Station) → Marks (at p) s' → (q : ℕ) → Marks (at q) (update p s' at q)
 marks-update p s' at m = update-ind (λ q u. Marks (at q) u) p s' at m (λ q d. same-marks (at q))
@@ -78,6 +78,6 @@ change-is {members} {first} {r} distinct i (visiting p t c) k =
     turns p refl
     (subst (λ u. Visit u (newest first (event (r.at p) (visiting p t c) ∷ r.history)) (r.at p) (update p (visited (r.at p) t c) r.at p))
     (sym (is-newest distinct i p k.0 t c (accepts (length members) p t c k)))
-    (subst (λ u. Visit t u (r.at p) (update p (visited (r.at p) t c) r.at p)) (sym (newest-new first (event (r.at p) (visiting p t c)) r.history (tokenAfter (r.at p) t c) refl))
-    (subst (λ u. Visit t (tokenAfter (r.at p) t c) (r.at p) u) (sym (update_here p (visited (r.at p) t c) r.at)) (visit-is (r.at p) t c))))
+    (subst (λ u. Visit t u (r.at p) (update p (visited (r.at p) t c) r.at p)) (sym (newest-new first (event (r.at p) (visiting p t c)) r.history (token_after (r.at p) t c) refl))
+    (subst (λ u. Visit t (token_after (r.at p) t c) (r.at p) u) (sym (update_here p (visited (r.at p) t c) r.at)) (visit-is (r.at p) t c))))
     (λ q d. update_other p (visited (r.at p) t c) r.at q d)

@@ -9,8 +9,8 @@ use lib.ListN.{length, get_or}
 use Rattle.ordering.specs.Lists.{Among}
 use Rattle.ordering.specs.inner.Frame.{Message, Token, message, token}
 use Rattle.ordering.specs.inner.Station.{Station}
-use Rattle.ordering.specs.inner.History.{Event, OnCable, newest, writtenIn}
-use Rattle.ordering.specs.inner.Run.{Ring, update, start, foundingToken}
+use Rattle.ordering.specs.inner.History.{Event, OnCable, newest, written_in}
+use Rattle.ordering.specs.inner.Run.{Ring, update, start, founding_token}
 use Rattle.ordering.proofs.Base.{eqb-cases}
 use Rattle.ordering.proofs.Aru.{Rules, rules-rise, rules-start}
 use Rattle.ordering.proofs.Cable.{cable-stays, cable-cases, newest-same}
@@ -120,23 +120,23 @@ inv-still {members} {first} {r} p s' e i st l =
 
 -- ---- at the start
 
-pub inv-start : (members text : List ℕ) → 1 ≤ length members → Inv members (foundingToken members text) (start members)
-unfolding newest writtenIn
+pub inv-start : (members text : List ℕ) → 1 ≤ length members → Inv members (founding_token members text) (start members)
+unfolding newest written_in
 inv-start members text h =
     record {
       xs = [];
       turn = 0;
       blocker = none;
-      readings = readings-start (foundingToken members text);
-      each = local-start members (foundingToken members text);
+      readings = readings-start (founding_token members text);
+      each = local-start members (founding_token members text);
       highest-is = refl;
       addressee-is = refl;
       blocker-is = refl;
       rules = rules-start (length members) h;
       safe = λ p q a b. omega arith;
       cable = inl refl;
-      older = λ t k. ⊎_elim (λ e. let q : t ≡ foundingToken members text = (let z : token t ≡ token (foundingToken members text) = e in cc) in omega (arith, ap (λ u. u.number) q)) (λ a. absurd a.1) k;
-      only = λ t q a k e b. ⊎_elim (λ z. let y : token t ≡ token (foundingToken members text) = z in cc) (λ z. absurd z.1) k;
+      older = λ t k. ⊎_elim (λ e. let q : t ≡ founding_token members text = (let z : token t ≡ token (founding_token members text) = e in cc) in omega (arith, ap (λ u. u.number) q)) (λ a. absurd a.1) k;
+      only = λ t q a k e b. ⊎_elim (λ z. let y : token t ≡ token (founding_token members text) = z in cc) (λ z. absurd z.1) k;
       lasts = λ q a. omega arith;
       waiting = λ a. omega arith;
     }

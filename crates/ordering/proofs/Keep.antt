@@ -8,10 +8,10 @@ use native.Mathlib.Omega.{arith}
 use lib.ListN.{length, take}
 use Rattle.ordering.specs.Lists.{Among, Distinct, OneBegins}
 use Rattle.ordering.specs.inner.Frame.{Message, Token, message, token}
-use Rattle.ordering.specs.inner.Station.{Station, heard, heldWith}
+use Rattle.ordering.specs.inner.Station.{Station, heard, held_with}
 use Rattle.ordering.specs.inner.Visit.{Choice}
-use Rattle.ordering.specs.inner.History.{handedAt}
-use Rattle.ordering.specs.inner.Run.{Ring, Call, quiet, hearing, visiting, resending, resendWrites, event, step, run, Possible, AllPossible, start, foundingToken}
+use Rattle.ordering.specs.inner.History.{handed_at}
+use Rattle.ordering.specs.inner.Run.{Ring, Call, quiet, hearing, visiting, resending, resend_writes, event, step, run, Possible, AllPossible, start, founding_token}
 use Rattle.ordering.specs.inner.Demand.{OneOrder, Allows, after}
 use Rattle.ordering.proofs.Base.{none-some, leb-cases, take_begins}
 use Rattle.ordering.proofs.Store.{level-up}
@@ -24,11 +24,11 @@ use Rattle.ordering.proofs.Turn.{Accepts, inv-turn}
 
 -- ---- the token that is resent
 
-no-message : (o : Option Token) (x : Message) → Among (message x) (resendWrites o) → ⊥
+no-message : (o : Option Token) (x : Message) → Among (message x) (resend_writes o) → ⊥
 no-message none x h = h
 no-message (some t) x h = ⊎_elim message-token (λ k. k) h
 
-resent : (o : Option Token) (t : Token) → Among (token t) (resendWrites o) → o ≡ some t
+resent : (o : Option Token) (t : Token) → Among (token t) (resend_writes o) → o ≡ some t
 resent none t h = absurd h
 resent (some u) t h = ⊎_elim (λ e. let z : token t ≡ token u = e in cc) absurd h
 
@@ -39,7 +39,7 @@ same-marks s = record { own = refl; safe = refl; aru = refl; last = refl; level 
 
 pub heard-marks : (s : Station) (x : Message) → Marks s (heard s x)
 unfolding heard
-heard-marks s x = record { own = refl; safe = refl; aru = refl; last = refl; level = level-up (heldWith s x) s.level }
+heard-marks s x = record { own = refl; safe = refl; aru = refl; last = refl; level = level-up (held_with s x) s.level }
 
 pub accepts : {first : Token} {r : Ring} (size p : ℕ) (t : Token) (c : Choice) → Possible size first r (visiting p t c) → Accepts first r p t c
 accepts size p t c k = record { cable = k.1; addressed = k.2; newer = k.3; allowed = k.4 }
@@ -92,13 +92,13 @@ possible-append size first (c ∷ cs) ds r k = let q = possible-append size firs
 -- ---- every ring that calls lead to
 
 module _ (members text : List ℕ) (distinct : Distinct members) (nonempty : 1 ≤ length members) where
-  pub reachable : (calls : List Call) → Allows members text calls → Inv members (foundingToken members text) (after members text calls)
+  pub reachable : (calls : List Call) → Allows members text calls → Inv members (founding_token members text) (after members text calls)
   reachable calls k = inv-run distinct calls (start members) k (inv-start members text nonempty)
 
-  pub one-order : OneOrder members text
-  one-order calls k p q hp hq =
+  pub one_order : OneOrder members text
+  one_order calls k p q hp hq =
       let i = reachable calls k in
-      subst (λ ys. OneBegins ys (handedAt q (after members text calls).history)) (sym (i.each p).handed)
+      subst (λ ys. OneBegins ys (handed_at q (after members text calls).history)) (sym (i.each p).handed)
       (subst (λ ys. OneBegins (take ((after members text calls).at p).delivered i.xs) ys) (sym (i.each q).handed)
       (⊎_elim
       (λ w. inl (take_begins ((after members text calls).at p).delivered ((after members text calls).at q).delivered i.xs w.1))

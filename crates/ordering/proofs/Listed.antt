@@ -7,7 +7,7 @@ use native.Mathlib.Omega.{arith}
 use lib.ListN.{length, get_elem?, take}
 use Rattle.ordering.specs.Lists.{Distinct}
 use Rattle.ordering.specs.inner.Frame.{Message, message}
-use Rattle.ordering.specs.inner.History.{Event, Written, writtenAt, reading, handedAt}
+use Rattle.ordering.specs.inner.History.{Event, Written, written_at, reading, handed_at}
 use Rattle.ordering.specs.inner.Run.{Call}
 use Rattle.ordering.specs.inner.Demand.{Allows, after}
 use Rattle.ordering.proofs.Readings.{holds-reading}
@@ -20,19 +20,19 @@ ListedFrom history n (x ∷ xs) = ((w : Written) × (reading history n ≡ some 
 
 -- the message at k is reading n + k
 abbrev ReadsFrom : List Event → ℕ → List Message → Type 0
-ReadsFrom history n xs = (i k : ℕ) (x : Message) → i ≡ n + k → get_elem? xs k ≡ some x → (place : ℕ) × (reading history i ≡ some (writtenAt place (message x)))
+ReadsFrom history n xs = (i k : ℕ) (x : Message) → i ≡ n + k → get_elem? xs k ≡ some x → (place : ℕ) × (reading history i ≡ some (written_at place (message x)))
 
 listed-take : (history : List Event) (n m : ℕ) (xs : List Message) → ReadsFrom history n xs → ListedFrom history n (take m xs)
 listed-take history n zero xs reads = tt
 listed-take history n (suc m) [] reads = tt
 listed-take history n (suc m) (x ∷ xs) reads =
     let here = reads n zero x (omega arith) refl in (
-      (writtenAt here.0 (message x), here.1, refl),
+      (written_at here.0 (message x), here.1, refl),
       listed-take history (suc n) m xs (λ i k y is e. reads i (suc k) y (omega (arith, is)) e),
     )
 
 pub listed : (members text : List ℕ) → Distinct members → 1 ≤ length members → (calls : List Call) → Allows members text calls
-    → (p : ℕ) → p < length members → ListedFrom (after members text calls).history 1 (handedAt p (after members text calls).history)
+    → (p : ℕ) → p < length members → ListedFrom (after members text calls).history 1 (handed_at p (after members text calls).history)
 listed members text distinct h calls k p p< =
     let r = after members text calls in
     let i = reachable members text distinct h calls k in

@@ -10,7 +10,7 @@ use lib.ListN.{length, get_or}
 use Rattle.ordering.specs.Lists.{Distinct}
 use Rattle.ordering.specs.inner.Frame.{Token}
 use Rattle.ordering.specs.inner.History.{Written, newest, reading, KeptAt, Received}
-use Rattle.ordering.specs.inner.Run.{Ring, Call, quiet, hearing, visiting, resending, stationOf, event, step, run, Possible, AllPossible, AcceptedIn}
+use Rattle.ordering.specs.inner.Run.{Ring, Call, quiet, hearing, visiting, resending, station_of, event, step, run, Possible, AllPossible, AcceptedIn}
 use Rattle.ordering.proofs.Base.{none-some, leb-cases}
 use Rattle.ordering.proofs.Cable.{reading-found, reading-stays}
 use Rattle.ordering.proofs.Local.{Had}
@@ -44,9 +44,9 @@ level-reached {r = r} i p m k =
 pub reading-run : (cs : List Call) (r : Ring) (n : ℕ) (w : Written) → reading r.history n ≡ some w → reading (run r cs).history n ≡ some w
 unfolding run step
 reading-run [] r n w h = h
-reading-run (c ∷ cs) r n w h = reading-run cs (step r c) n w (reading-stays (event (r.at (stationOf c)) c) r.history n w h)
+reading-run (c ∷ cs) r n w h = reading-run cs (step r c) n w (reading-stays (event (r.at (station_of c)) c) r.history n w h)
 
-possible-place : (size : ℕ) (first : Token) (r : Ring) (c : Call) → Possible size first r c → stationOf c < size
+possible-place : (size : ℕ) (first : Token) (r : Ring) (c : Call) → Possible size first r c → station_of c < size
 possible-place size first r (quiet p) k = k
 possible-place size first r (hearing p x) k = k.0
 possible-place size first r (visiting p t c) k = k.0
@@ -61,7 +61,7 @@ module _ (members : List ℕ) (first : Token) where
   abbrev pub Brings : (Ring → Type 0) → (Ring → Type 0) → ℕ → Type 0
   Brings P Q p =
       (r : Ring) (c : Call) (t : Token) → Inv members first r → Possible (length members) first r c
-      → stationOf c ≡ p → (event (r.at (stationOf c)) c).forwarded ≡ some t → P r → Q (step r c)
+      → station_of c ≡ p → (event (r.at (station_of c)) c).forwarded ≡ some t → P r → Q (step r c)
 
 module _ {members : List ℕ} {first : Token} (distinct : Distinct members) where
   pub kept_run : (P : Ring → Type 0) → Kept members first P → (cs : List Call) (r : Ring) → AllPossible (length members) first r cs → Inv members first r → P r → P (run r cs)
@@ -72,11 +72,11 @@ module _ {members : List ℕ} {first : Token} (distinct : Distinct members) wher
   pub until : (P Q : Ring → Type 0) (p : ℕ) → Kept members first P → Kept members first Q → Brings members first P Q p
       → (cs : List Call) (r : Ring) → AllPossible (length members) first r cs → Inv members first r → AcceptedIn p r cs → P r → Q (run r cs)
   unfolding run
-  until P Q p keep_p keepQ bring [] r k i a h = absurd a
-  until P Q p keep_p keepQ bring (c ∷ cs) r k i (inl a) h =
-      kept_run Q keepQ cs (step r c) k.1 (inv-step distinct c k.0 i) (bring r c a.1.0 i k.0 a.0 a.1.1 h)
-  until P Q p keep_p keepQ bring (c ∷ cs) r k i (inr a) h =
-      until P Q p keep_p keepQ bring cs (step r c) k.1 (inv-step distinct c k.0 i) a (keep_p r c i k.0 h)
+  until P Q p keep_p keep_q bring [] r k i a h = absurd a
+  until P Q p keep_p keep_q bring (c ∷ cs) r k i (inl a) h =
+      kept_run Q keep_q cs (step r c) k.1 (inv-step distinct c k.0 i) (bring r c a.1.0 i k.0 a.0 a.1.1 h)
+  until P Q p keep_p keep_q bring (c ∷ cs) r k i (inr a) h =
+      until P Q p keep_p keep_q bring cs (step r c) k.1 (inv-step distinct c k.0 i) a (keep_p r c i k.0 h)
 
 -- ---- the stages
 
@@ -112,7 +112,7 @@ module _ {members : List ℕ} {first : Token} (distinct : Distinct members) (m :
           ]
 
   -- the level where the call is
-  high-here : (r : Ring) (c : Call) (p : ℕ) → Inv members first r → Possible (length members) first r c → stationOf c ≡ p → High members m r → m ≤ (r.at p).level
+  high-here : (r : Ring) (c : Call) (p : ℕ) → Inv members first r → Possible (length members) first r c → station_of c ≡ p → High members m r → m ≤ (r.at p).level
   high-here r c p i k e h = h p (omega (arith, possible-place (length members) first r c k))
 
   pub blocked-kept : (v : ℕ) → Kept members first (Blocked members first m v)

@@ -8,8 +8,8 @@ use native.Mathlib.Omega.{arith}
 use lib.ListN.{length, get_or, take}
 use Rattle.ordering.specs.Lists.{Begins, first_of}
 use Rattle.ordering.specs.inner.Frame.{Message, Token, message, token}
-use Rattle.ordering.specs.inner.Station.{Store, Station, window, levelOf, due}
-use Rattle.ordering.specs.inner.History.{Event, Written, writtenIn, OnCable, reading, KeptAt, Received, handedAt}
+use Rattle.ordering.specs.inner.Station.{Store, Station, window, level_of, due}
+use Rattle.ordering.specs.inner.History.{Event, Written, written_in, OnCable, reading, KeptAt, Received, handed_at}
 use Rattle.ordering.specs.inner.Run.{fresh}
 use Rattle.ordering.proofs.Base.{none-some, leb-cases}
 use Rattle.ordering.proofs.Store.{Rise, rise-is, due-few, due-safe, due-take}
@@ -37,7 +37,7 @@ pub record Local (members : List ℕ) (first : Token) (xs : List Message) (histo
   -- and the other way round
   pub kept : (x : Message) → KeptAt p (message x) history → Had s x.number
   pub wrote : (n : ℕ) (w : Written) → reading history n ≡ some w → w.place ≡ p → Had s n
-  pub handed : handedAt p history ≡ take s.delivered xs
+  pub handed : handed_at p history ≡ take s.delivered xs
   pub resendable : (t : Token) → s.resendable ≡ some t → OnCable first history (token t)
 
 -- ---- the station stays as it is
@@ -47,7 +47,7 @@ pub local-idle : {members : List ℕ} {first : Token} {xs : List Message} {histo
     → Begins xs ys
     → ((x : Message) → KeptAt p (message x) (e ∷ history) → KeptAt p (message x) history)
     → ((n : ℕ) (w : Written) → reading (e ∷ history) n ≡ some w → w.place ≡ p → reading history n ≡ some w)
-    → handedAt p (e ∷ history) ≡ handedAt p history
+    → handed_at p (e ∷ history) ≡ handed_at p history
     → Local members first ys (e ∷ history) p s
 local-idle {members} {first} {xs} {history} {p} {s} ys e l more calm same handed =
     record {
@@ -84,13 +84,13 @@ local-other {history = history} {p} ys e l more d =
 -- ---- the station holds more: how far its level rises and what it delivers
 
 pub record Climbed (ys : List Message) (s : Station) (h : Store) (safe : ℕ) : Type 0 where
-  pub rise : Rise h s.level (levelOf h s.level)
-  pub filled : (k : ℕ) → s.safe < k → k ≤ levelOf h s.level → (x : Message) × (h k ≡ some x)
-  pub top : levelOf h s.level ≤ length ys
-  pub safe-delivered : safe ≤ s.delivered + length (due h safe (levelOf h s.level - s.delivered) s.delivered)
-  pub delivered-top : s.delivered + length (due h safe (levelOf h s.level - s.delivered) s.delivered) ≤ levelOf h s.level
-  pub handed : take s.delivered ys ++ due h safe (levelOf h s.level - s.delivered) s.delivered
-      ≡ take (s.delivered + length (due h safe (levelOf h s.level - s.delivered) s.delivered)) ys
+  pub rise : Rise h s.level (level_of h s.level)
+  pub filled : (k : ℕ) → s.safe < k → k ≤ level_of h s.level → (x : Message) × (h k ≡ some x)
+  pub top : level_of h s.level ≤ length ys
+  pub safe-delivered : safe ≤ s.delivered + length (due h safe (level_of h s.level - s.delivered) s.delivered)
+  pub delivered-top : s.delivered + length (due h safe (level_of h s.level - s.delivered) s.delivered) ≤ level_of h s.level
+  pub handed : take s.delivered ys ++ due h safe (level_of h s.level - s.delivered) s.delivered
+      ≡ take (s.delivered + length (due h safe (level_of h s.level - s.delivered) s.delivered)) ys
 
 pub climbed : {members : List ℕ} {first : Token} {xs : List Message} {history : List Event} {p : ℕ} {s : Station} (ys : List Message) (h : Store) (safe : ℕ)
     → Local members first xs history p s
@@ -98,7 +98,7 @@ pub climbed : {members : List ℕ} {first : Token} {xs : List Message} {history 
     → ((n : ℕ) (x : Message) → h n ≡ some x → Holds ys n x)
     → ((n : ℕ) (x : Message) → h n ≡ some x → n ≤ s.safe + window)
     → ((n : ℕ) (x : Message) → s.held n ≡ some x → (y : Message) × (h n ≡ some y))
-    → safe ≤ levelOf h s.level
+    → safe ≤ level_of h s.level
     → Climbed ys s h safe
 climbed {members} {first} {xs} {history} {p} {s} ys h safe l more reads near keeps low =
     record {
@@ -117,7 +117,7 @@ climbed {members} {first} {xs} {history} {p} {s} ys h safe l more reads near kee
     }
   where
     level : ℕ
-    level = levelOf h s.level
+    level = level_of h s.level
 
     n : ℕ
     n = level - s.delivered
@@ -135,7 +135,7 @@ climbed {members} {first} {xs} {history} {p} {s} ys h safe l more reads near kee
 -- ---- at the start
 
 pub local-start : (members : List ℕ) (first : Token) (p : ℕ) → Local members first [] [] p (fresh members p)
-unfolding handedAt reading writtenIn first_of
+unfolding handed_at reading written_in first_of
 local-start members first p =
     record {
       members-are = refl;

@@ -8,7 +8,7 @@ use lib.ListN.{length, get_or}
 use Rattle.ordering.specs.Lists.{Distinct}
 use Rattle.ordering.specs.inner.Frame.{Message, Token, message, token}
 use Rattle.ordering.specs.inner.History.{OnCable, newest}
-use Rattle.ordering.specs.inner.Run.{Ring, Call, foundingToken}
+use Rattle.ordering.specs.inner.Run.{Ring, Call, founding_token}
 use Rattle.ordering.specs.inner.Demand.{Allows, after}
 use Rattle.ordering.proofs.Readings.{holds-top, one-message}
 use Rattle.ordering.proofs.Inv.{Inv}
@@ -54,5 +54,5 @@ newest-of {members} {first} {r} i =
     }
 
 pub newest-is : (members text : List ℕ) → Distinct members → 1 ≤ length members → (calls : List Call) → Allows members text calls
-    → Newest members (foundingToken members text) (after members text calls)
+    → Newest members (founding_token members text) (after members text calls)
 newest-is members text distinct h calls k = newest-of (reachable members text distinct h calls k)

@@ -7,8 +7,8 @@ use mathlib.Core.List.{List, ◌∷◌, ◌++◌}
 use mathlib.Core.Option.{none, some}
 use native.Mathlib.Omega.{arith}
 use Rattle.ordering.specs.inner.Frame.{Message, Token, message}
-use Rattle.ordering.specs.inner.Station.{Station, window, given, put, keeps, heldWith, levelWith, handedWith, heard, due}
-use Rattle.ordering.specs.inner.History.{Event, writtenAt, OnCable, Received}
+use Rattle.ordering.specs.inner.Station.{Station, window, given, put, keeps, held_with, level_with, handed_with, heard, due}
+use Rattle.ordering.specs.inner.History.{Event, written_at, OnCable, Received}
 use Rattle.ordering.specs.inner.Run.{hearing, event}
 use Rattle.ordering.proofs.Base.{none-some, some_same, leb-cases, ltb-cases}
 use Rattle.ordering.proofs.Store.{put-cases, level-up}
@@ -41,18 +41,18 @@ keeps-cases s x =
 module _ (s : Station) (x : Message) where
   -- held afterwards: the message, or what was
   pub with_cases : (n : ℕ)
-      → ((keeps s x ≡ true) × (n ≡ x.number) × (x.number ≤ s.safe + window) × (heldWith s x n ≡ some x)) ⊎ (heldWith s x n ≡ s.held n)
+      → ((keeps s x ≡ true) × (n ≡ x.number) × (x.number ≤ s.safe + window) × (held_with s x n ≡ some x)) ⊎ (held_with s x n ≡ s.held n)
   with_cases n = go (keeps-cases s x)
     where
-      go : Keeps s x → ((keeps s x ≡ true) × (n ≡ x.number) × (x.number ≤ s.safe + window) × (heldWith s x n ≡ some x)) ⊎ (heldWith s x n ≡ s.held n)
+      go : Keeps s x → ((keeps s x ≡ true) × (n ≡ x.number) × (x.number ≤ s.safe + window) × (held_with s x n ≡ some x)) ⊎ (held_with s x n ≡ s.held n)
       go (passing e) = inr (rw e)
       go (keeping e low high) =
           ⊎_elim (λ w. inl (e, w.0, high, ap (λ b. cond b (put x s.held) s.held n) e ∙ w.1)) (λ w. inr (ap (λ b. cond b (put x s.held) s.held n) e ∙ w.1)) (put-cases x s.held n)
 
-  pub with-kept : keeps s x ≡ true → heldWith s x x.number ≡ some x
+  pub with-kept : keeps s x ≡ true → held_with s x x.number ≡ some x
   with-kept e = ap (λ b. cond b (put x s.held) s.held x.number) e ∙ ⊎_elim (λ w. w.1) (λ w. absurd (w.0 refl)) (put-cases x s.held x.number)
 
-  pub with-more : (n : ℕ) (y : Message) → s.held n ≡ some y → (z : Message) × (heldWith s x n ≡ some z)
+  pub with-more : (n : ℕ) (y : Message) → s.held n ≡ some y → (z : Message) × (held_with s x n ≡ some z)
   with-more n y h = ⊎_elim (λ w. (x, w.3)) (λ w. (y, w ∙ h)) (with_cases n)
 
 -- ---- the station afterwards
@@ -66,7 +66,7 @@ pub local-heard : {members : List ℕ} {first : Token} {xs : List Message} {hist
     → OnCable first history (message x)
     → Local members first xs history p s
     → Local members first xs (event s (hearing p x) ∷ history) p (heard s x)
-unfolding heard handedWith
+unfolding heard handed_with
 local-heard {members} {first} {xs} {history} {s} p x r cable l =
     record {
       members-are = l.members-are;
@@ -89,18 +89,18 @@ local-heard {members} {first} {xs} {history} {s} p x r cable l =
           (λ k.
           let q = kept-is (keeps s x) x k.1.0 k.1.1 in
           let same : x ≡ y = (let a : message y ≡ message k.1.0 = k.1.2 in let b : x ≡ k.1.0 = q.1 in cc) in
-          inr (x, subst (λ z. heldWith s x z.number ≡ some x) same (with-kept s x q.0)))
+          inr (x, subst (λ z. held_with s x z.number ≡ some x) same (with-kept s x q.0)))
           (λ k. more y.number (l.kept y k))
           h;
       wrote = λ n w h k. ⊎_elim (λ q. more n (l.wrote n w q k)) (λ q. absurd q.2.3) (reading-cases e history n w h);
-      handed = handed-here e history ∙ ap (λ ys. ys ++ due (heldWith s x) s.safe (levelWith s x - s.delivered) s.delivered) l.handed ∙ c.handed;
+      handed = handed-here e history ∙ ap (λ ys. ys ++ due (held_with s x) s.safe (level_with s x - s.delivered) s.delivered) l.handed ∙ c.handed;
       resendable = λ t h. absurd (none-some h);
     }
   where
     e : Event
     e = event s (hearing p x)
 
-    reads' : (n : ℕ) (y : Message) → heldWith s x n ≡ some y → Holds xs n y
+    reads' : (n : ℕ) (y : Message) → held_with s x n ≡ some y → Holds xs n y
     reads' n y h =
         ⊎_elim
         (λ w.
@@ -109,24 +109,24 @@ local-heard {members} {first} {xs} {history} {s} p x r cable l =
         (λ w. l.reads n y (sym w ∙ h))
         (with_cases s x n)
 
-    near' : (n : ℕ) (y : Message) → heldWith s x n ≡ some y → n ≤ s.safe + window
+    near' : (n : ℕ) (y : Message) → held_with s x n ≡ some y → n ≤ s.safe + window
     near' n y h = ⊎_elim (λ w. omega (arith, w.1, w.2)) (λ w. l.near n y (sym w ∙ h)) (with_cases s x n)
 
-    c : Climbed xs s (heldWith s x) s.safe
-    c = climbed xs (heldWith s x) s.safe l (longer-self xs) reads' near' (with-more s x) (omega (arith, level-up (heldWith s x) s.level, l.safe-delivered, l.delivered-level))
+    c : Climbed xs s (held_with s x) s.safe
+    c = climbed xs (held_with s x) s.safe l (longer-self xs) reads' near' (with-more s x) (omega (arith, level-up (held_with s x) s.level, l.safe-delivered, l.delivered-level))
 
     more : (n : ℕ) → Had s n → Had (heard s x) n
     more n (inl h) = inl (omega (arith, c.rise.up))
     more n (inr h) = inr (with-more s x n h.0 h.1)
 
-    holds' : (n : ℕ) (y : Message) → heldWith s x n ≡ some y → Received p n (e ∷ history)
+    holds' : (n : ℕ) (y : Message) → held_with s x n ≡ some y → Received p n (e ∷ history)
     holds' n y h =
         ⊎_elim
         (λ w.
         let q = holds-reading r n x (subst (λ m. Holds xs m x) (sym w.1) (r.cable x cable)) in
         record {
-          first = writtenAt q.0 (message x);
-          is = reading-stays e history n (writtenAt q.0 (message x)) q.1;
+          first = written_at q.0 (message x);
+          is = reading-stays e history n (written_at q.0 (message x)) q.1;
           how = inl (inl (refl, (x, rw w.0, refl)));
         })
         (λ w. received-stays e history n p (l.holds n y (sym w ∙ h)))

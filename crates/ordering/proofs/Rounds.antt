@@ -8,8 +8,8 @@ use native.Mathlib.Omega.{arith}
 use lib.ListN.{length}
 use Rattle.ordering.specs.Lists.{Among, Distinct}
 use Rattle.ordering.specs.inner.Frame.{Message, Token, message}
-use Rattle.ordering.specs.inner.History.{Written, writtenAt, newest, reading, handedAt}
-use Rattle.ordering.specs.inner.Run.{Ring, Call, run, start, foundingToken, AllPossible, AcceptedIn}
+use Rattle.ordering.specs.inner.History.{Written, written_at, newest, reading, handed_at}
+use Rattle.ordering.specs.inner.Run.{Ring, Call, run, start, founding_token, AllPossible, AcceptedIn}
 use Rattle.ordering.specs.inner.Demand.{Delivered, Round, after}
 use Rattle.ordering.proofs.Base.{some_same, leb-cases, at-given, among-at}
 use Rattle.ordering.proofs.Cable.{reading-found}
@@ -55,13 +55,13 @@ module _ (members : List ℕ) (first : Token) (distinct : Distinct members) (m :
 -- ---- a safe mark, so delivered
 
 delivered-to : {members : List ℕ} {first : Token} {r : Ring} (i : Inv members first r) (p n : ℕ) (w : Written) (x : Message)
-    → 1 ≤ n → n ≤ (r.at p).safe → reading r.history n ≡ some w → w.frame ≡ message x → Among x (handedAt p r.history)
+    → 1 ≤ n → n ≤ (r.at p).safe → reading r.history n ≡ some w → w.frame ≡ message x → Among x (handed_at p r.history)
 delivered-to i p zero w x a b e f = absurd (omega arith)
 delivered-to {r = r} i p (suc k) w x a b e f =
     let short : k < (r.at p).delivered = omega (arith, (i.each p).safe-delivered) in
     let g = at-given i.xs k (omega (arith, (i.each p).delivered-level, (i.each p).level-top)) in
     let q = (i.readings.reads k g.0 g.1).1 in
-    let same : w ≡ writtenAt q.0 (message g.0) = some_same e q.1 in
+    let same : w ≡ written_at q.0 (message g.0) = some_same e q.1 in
     let is : x ≡ g.0 = (let z : message x ≡ message g.0 = sym f ∙ ap (λ v. v.frame) same in cc) in
     subst (λ ys. Among x ys) (sym (i.each p).handed) (among-at i.xs k (r.at p).delivered x (g.1 ∙ ap some (sym is)) short)
 
@@ -70,7 +70,7 @@ delivered-to {r = r} i p (suc k) w x a b e f =
 module _ (members text : List ℕ) (distinct : Distinct members) (nonempty : 1 ≤ length members) where
   pub delivered : Delivered members text
   delivered before one two three k m received all₁ all₂ all₃ p n h a b =
-      let first = foundingToken members text in
+      let first = founding_token members text in
       let r₀ = run (start members) before in
       let k₀ = possible-append (length members) first before (one ++ (two ++ three)) (start members) k in
       let k₁ = possible-append (length members) first one (two ++ three) r₀ k₀.1 in
@@ -97,5 +97,5 @@ module _ (members text : List ℕ) (distinct : Distinct members) (nonempty : 1 �
         got.first,
         got.is,
         found.frame,
-        subst (λ r. Among found.content (handedAt p r.history)) (sym e₃) (delivered-to i₃ p n got.first found.content a (omega arith) later found.frame),
+        subst (λ r. Among found.content (handed_at p r.history)) (sym e₃) (delivered-to i₃ p n got.first found.content a (omega arith) later found.frame),
       )

@@ -12,7 +12,7 @@ use lib.ListN.{length, get_elem?, take}
 use lib.Dec.{leb}
 use Rattle.ordering.specs.Lists.{Among}
 use Rattle.ordering.specs.inner.Frame.{Message}
-use Rattle.ordering.specs.inner.Station.{Store, given, put, put_all, release, reached, due, window, levelOf}
+use Rattle.ordering.specs.inner.Station.{Store, given, put, put_all, release, reached, due, window, level_of}
 use Rattle.ordering.specs.inner.Visit.{NumberedFrom}
 use Rattle.ordering.proofs.Base.{eqb-cases, ltb-cases, leb-cases, none-some, take-one-more}
 
@@ -82,7 +82,7 @@ reached-is has (suc n) level = go (has (suc level)) refl (reached-is has n (suc 
           stop = ⊎_elim inl (λ w. inr (omega arith)) r.stop;
         })
 
-pub level-up : (h : Store) (level : ℕ) → level ≤ levelOf h level
+pub level-up : (h : Store) (level : ℕ) → level ≤ level_of h level
 level-up h level = (reached-is (λ n. given (h n)) window level).up
 
 -- what is held lies in the window above a mark that the level is not below: then the rise stops at a gap
@@ -91,11 +91,11 @@ pub record Rise (h : Store) (level top : ℕ) : Type 0 where
   pub filled : (k : ℕ) → level < k → k ≤ top → (x : Message) × (h k ≡ some x)
   pub gap : h (suc top) ≡ none
 
-pub rise-is : (h : Store) (safe level : ℕ) → safe ≤ level → ((n : ℕ) (x : Message) → h n ≡ some x → n ≤ safe + window) → Rise h level (levelOf h level)
+pub rise-is : (h : Store) (safe level : ℕ) → safe ≤ level → ((n : ℕ) (x : Message) → h n ≡ some x → n ≤ safe + window) → Rise h level (level_of h level)
 rise-is h safe level low near = go (reached-is (λ n. given (h n)) window level)
   where
     top : ℕ
-    top = levelOf h level
+    top = level_of h level
 
     gone : (o : Option Message) → h (suc top) ≡ o → top ≡ level + window → h (suc top) ≡ none
     gone none e q = e

@@ -5,19 +5,19 @@ use mathlib.Core.Bool.{Bool, true, false, ◌&&◌, and-false, and-true, and_ass
 use native.Mathlib.Nat.{add-zero, sub-zero}
 use native.Mathlib.Omega.{arith}
 use Rattle.frames.proofs.Facts.{part}
-use Rattle.record.specs.Count.{everyFrom}
+use Rattle.record.specs.Count.{every_from}
 
 -- of n numbers from `first` on, the first i have passed
 pub record Counting (test : ℕ → Bool) (first n i : ℕ) : Type 0 where
   pub within : i ≤ n
-  pub rest : everyFrom test (first + i) (n - i) ≡ everyFrom test first n
+  pub rest : every_from test (first + i) (n - i) ≡ every_from test first n
 
 pub count-starts : (test : ℕ → Bool) (first n : ℕ) → Counting test first n 0
 count-starts test first n = record { within = omega arith; rest = rw (add-zero first, sub-zero n) refl }
 
 -- the next of those that are left
-next : (test : ℕ → Bool) (first n i : ℕ) → i < n → everyFrom test (first + i) (n - i) ≡ (test (first + i) && everyFrom test (first + (i + 1)) (n - (i + 1)))
-unfolding everyFrom
+next : (test : ℕ → Bool) (first n i : ℕ) → i < n → every_from test (first + i) (n - i) ≡ (test (first + i) && every_from test (first + (i + 1)) (n - (i + 1)))
+unfolding every_from
 next test first n i h =
     let e : n - i ≡ suc (n - (i + 1)) = omega arith in
     let s : first + (i + 1) ≡ suc (first + i) = omega arith in
@@ -25,7 +25,7 @@ next test first n i h =
 
 module _ (test : ℕ → Bool) (first n i : ℕ) (so_far : Counting test first n i) where
   -- the test fails at i
-  pub count-stops : i < n → test (first + i) ≡ false → false ≡ everyFrom test first n
+  pub count-stops : i < n → test (first + i) ≡ false → false ≡ every_from test first n
   count-stops h f = rw (next test first n i h, f) at so_far.rest
 
   -- it holds at i
@@ -33,8 +33,8 @@ module _ (test : ℕ → Bool) (first n i : ℕ) (so_far : Counting test first n
   count-goes h f = record { within = omega arith; rest = rw (next test first n i h, f) at so_far.rest }
 
   -- nothing is left
-  pub count-ends : n ≤ i → true ≡ everyFrom test first n
-  unfolding everyFrom
+  pub count-ends : n ≤ i → true ≡ every_from test first n
+  unfolding every_from
   count-ends h =
       let e : n - i ≡ 0 = omega arith in
       rw e at so_far.rest
@@ -43,7 +43,7 @@ module _ (test : ℕ → Bool) (first n i : ℕ) (so_far : Counting test first n
 
 pub record Gathered (test : ℕ → Bool) (first n : ℕ) (good : Bool) (i : ℕ) : Type 0 where
   pub within : i ≤ n
-  pub rest : good && everyFrom test (first + i) (n - i) ≡ everyFrom test first n
+  pub rest : good && every_from test (first + i) (n - i) ≡ every_from test first n
 
 pub gathered-starts : (test : ℕ → Bool) (first n : ℕ) → Gathered test first n true 0
 gathered-starts test first n = record { within = omega arith; rest = rw (add-zero first, sub-zero n) refl }
@@ -53,11 +53,11 @@ module _ (test : ℕ → Bool) (first n : ℕ) (good : Bool) (i : ℕ) (so_far :
   gathered-goes h =
       record {
         within = omega arith;
-        rest = and_assoc good (test (first + i)) (everyFrom test (first + (i + 1)) (n - (i + 1))) ∙ rw (next test first n i h) at so_far.rest;
+        rest = and_assoc good (test (first + i)) (every_from test (first + (i + 1)) (n - (i + 1))) ∙ rw (next test first n i h) at so_far.rest;
       }
 
-  pub gathered-ends : n ≤ i → good ≡ everyFrom test first n
-  unfolding everyFrom
+  pub gathered-ends : n ≤ i → good ≡ every_from test first n
+  unfolding every_from
   gathered-ends h =
       let e : n - i ≡ 0 = omega arith in
       sym (and-true good) ∙ rw e at so_far.rest
@@ -77,7 +77,7 @@ module _ (test : ℕ → Bool) (low high n : ℕ) (so_far : Running test low hig
   at_next : suc low + (n - suc low) ≡ n
   at_next = omega (arith, so_far.above)
 
-  pub run-stops : n ≤ high → test n ≡ false → false ≡ everyFrom test (suc low) (high - low)
+  pub run-stops : n ≤ high → test n ≡ false → false ≡ every_from test (suc low) (high - low)
   run-stops h f = count-stops test (suc low) (high - low) (n - suc low) so_far.count (omega (arith, so_far.above)) (rw at_next f)
 
   pub run-goes : n ≤ high → test n ≡ true → Running test low high (n + 1)
@@ -88,29 +88,29 @@ module _ (test : ℕ → Bool) (low high n : ℕ) (so_far : Running test low hig
         count = rw z (count-goes test (suc low) (high - low) (n - suc low) so_far.count (omega (arith, so_far.above)) (rw at_next f));
       }
 
-  pub run_ends : high < n → true ≡ everyFrom test (suc low) (high - low)
+  pub run_ends : high < n → true ≡ every_from test (suc low) (high - low)
   run_ends h = count-ends test (suc low) (high - low) (n - suc low) so_far.count (omega (arith, so_far.above))
 
 -- ---- what a run that passed tells, and when one passes
 
-pub each-passes : (test : ℕ → Bool) (first n : ℕ) → everyFrom test first n ≡ true → (i : ℕ) → i < n → test (first + i) ≡ true
-unfolding everyFrom
+pub each-passes : (test : ℕ → Bool) (first n : ℕ) → every_from test first n ≡ true → (i : ℕ) → i < n → test (first + i) ≡ true
+unfolding every_from
 each-passes test first zero e i h = absurd (omega arith)
 each-passes test first (suc n) e zero h = rw (add-zero first) (part e (λ (f : test first ≡ false). rw f))
 each-passes test first (suc n) e (suc i) h =
     let s : first + suc i ≡ suc first + i = omega arith in
-    rw s (each-passes test (suc first) n (part e (λ (f : everyFrom test (suc first) n ≡ false). simp (f, and-false))) i (omega arith))
+    rw s (each-passes test (suc first) n (part e (λ (f : every_from test (suc first) n ≡ false). simp (f, and-false))) i (omega arith))
 
 -- by the number itself
-pub run-passes : (test : ℕ → Bool) (low many : ℕ) → everyFrom test (suc low) many ≡ true → (n : ℕ) → low < n → n ≤ low + many → test n ≡ true
+pub run-passes : (test : ℕ → Bool) (low many : ℕ) → every_from test (suc low) many ≡ true → (n : ℕ) → low < n → n ≤ low + many → test n ≡ true
 run-passes test low many e n above below =
     let at : suc low + (n - suc low) ≡ n = omega arith in
     rw at at (each-passes test (suc low) many e (n - suc low) (omega arith))
 
-pub all_pass : (test : ℕ → Bool) (first n : ℕ) → ((i : ℕ) → i < n → test (first + i) ≡ true) → everyFrom test first n ≡ true
-unfolding everyFrom
-all_pass test first zero p = refl
-all_pass test first (suc n) p = rw (rw (add-zero first) at (p 0 (omega arith)), all_pass test (suc first) n later)
+pub all-pass : (test : ℕ → Bool) (first n : ℕ) → ((i : ℕ) → i < n → test (first + i) ≡ true) → every_from test first n ≡ true
+unfolding every_from
+all-pass test first zero p = refl
+all-pass test first (suc n) p = rw (rw (add-zero first) at (p 0 (omega arith)), all-pass test (suc first) n later)
   where
     later : (i : ℕ) → i < n → test (suc first + i) ≡ true
     later i h =
@@ -118,8 +118,8 @@ all_pass test first (suc n) p = rw (rw (add-zero first) at (p 0 (omega arith)), 
         rw s at (p (suc i) (omega arith))
 
 -- two tests that agree on the run
-pub all_same : (test other : ℕ → Bool) (first n : ℕ) → ((i : ℕ) → i < n → test (first + i) ≡ other (first + i)) → everyFrom test first n ≡ everyFrom other first n
-unfolding everyFrom
+pub all_same : (test other : ℕ → Bool) (first n : ℕ) → ((i : ℕ) → i < n → test (first + i) ≡ other (first + i)) → every_from test first n ≡ every_from other first n
+unfolding every_from
 all_same test other first zero p = refl
 all_same test other first (suc n) p = rw (rw (add-zero first) at (p 0 (omega arith)), all_same test other (suc first) n later)
   where

@@ -7,15 +7,15 @@ use borrow.Author.Tests.{leb-true, eqb-true}
 use native.Mathlib.Omega.{arith}
 use lib.ListN.{length, get_or, drop, take-append-drop}
 use lib.Dec.{leb, eqb}
-use Rattle.words.specs.Scan.{allWithin, allZero}
+use Rattle.words.specs.Scan.{all_within, all_zero}
 use Rattle.words.proofs.ScanLaws.{within-most}
-use Rattle.frames.specs.Number.{mostNumber, mostId}
-use Rattle.frames.specs.Layout.{longestToken}
+use Rattle.frames.specs.Number.{most_number, most_id}
+use Rattle.frames.specs.Layout.{longest_token}
 use Rattle.frames.proofs.Facts.{part}
-use Rattle.record.specs.Size.{mostMembers}
-use Rattle.record.specs.Members.{idsFollow, foundable}
+use Rattle.record.specs.Size.{most_members}
+use Rattle.record.specs.Members.{ids_follow, foundable}
 use Rattle.record.specs.Ring.{ids}
-use Rattle.record.specs.Whole.{logInRange, turnInRange, postsInRange, logUnusedZero, logWhole, turnWhole, postsWhole, panelRight, partsWhole, whole}
+use Rattle.record.specs.Whole.{log_in_range, turn_in_range, posts_in_range, log_unused_zero, log_whole, turn_whole, posts_whole, panel_right, parts_whole, whole}
 use Rattle.record.specs.Panel.{undelivered}
 use Rattle.record.proofs.TallyLaws.{undelivered-most}
 use Rattle.record.specs.declared.log.Held.{Held}
@@ -39,7 +39,7 @@ pub record HeldFits (h : Held) : Type 0 where
 pub record LogFits (l : Log) : Type 0 where
   pub ring : l.ring.0 < 256 ^ 4
   pub count : l.count < 256 ^ 1
-  pub places : length l.members ≡ mostMembers
+  pub places : length l.members ≡ most_members
   pub members : Words 2 l.members
   pub level : l.level.0 < 256 ^ 4
   pub safe : l.safe.0 < 256 ^ 4
@@ -54,7 +54,7 @@ pub record TurnFits (t : Turn) : Type 0 where
   pub stall : t.stall < 256 ^ 1
   pub waited : t.waited < 256 ^ 1
   pub size : t.size < 256 ^ 1
-  pub token : length t.token ≡ longestToken
+  pub token : length t.token ≡ longest_token
 
 pub record PostsFits (p : Posts) : Type 0 where
   pub count : p.count < 256 ^ 1
@@ -78,7 +78,7 @@ held_fits h g =
       services = λ i. omega (arith, g.services i);
     }
 
-log-fits : (l : Log) → LogRange l → l.ring.0 ≤ mostNumber → ((i : ℕ) → get_or l.members i 0 ≤ mostId) → LogFits l
+log-fits : (l : Log) → LogRange l → l.ring.0 ≤ most_number → ((i : ℕ) → get_or l.members i 0 ≤ most_id) → LogFits l
 log-fits l g ring members =
     record {
       ring = omega arith;
@@ -114,23 +114,23 @@ posts-fits p g =
 
 -- ---- the ring number and the members: the founding questions, and zeros past the count
 
-members-most : (l : Log) → allWithin 1 mostId (ids l) ≡ true → allZero (drop l.count l.members) ≡ true → (i : ℕ) → get_or l.members i 0 ≤ mostId
+members-most : (l : Log) → all_within 1 most_id (ids l) ≡ true → all_zero (drop l.count l.members) ≡ true → (i : ℕ) → get_or l.members i 0 ≤ most_id
 members-most l first rest =
-    let most = within-most 1 mostId (ids l) first in
-    let zeros : (i : ℕ) → get_or (drop l.count l.members) i 0 ≤ mostId = λ i. omega (arith, within-most 0 0 (drop l.count l.members) rest i) in
-    rw take-append-drop at (most-append mostId (ids l) (drop l.count l.members) most zeros)
+    let most = within-most 1 most_id (ids l) first in
+    let zeros : (i : ℕ) → get_or (drop l.count l.members) i 0 ≤ most_id = λ i. omega (arith, within-most 0 0 (drop l.count l.members) rest i) in
+    rw take-append-drop at (most-append most_id (ids l) (drop l.count l.members) most zeros)
 
 pub whole-fits : (r : Record) → whole r ≡ true → RecordFits r
-unfolding whole panelRight partsWhole logWhole turnWhole postsWhole foundable idsFollow logUnusedZero
+unfolding whole panel_right parts_whole log_whole turn_whole posts_whole foundable ids_follow log_unused_zero
 whole-fits r e =
     let l = r.log in
-    let own : r.own ≤ mostId = leb-true r.own mostId (part e (λ (f : leb r.own mostId ≡ false). simp (f, and-false))) in
-    let log = log-range l (part e (λ (f : logInRange l ≡ false). simp (f, and-false))) in
-    let turn = turn-range r.turn (part e (λ (f : turnInRange r.turn ≡ false). simp (f, and-false))) in
-    let posts = posts-range r.posts (part e (λ (f : postsInRange r.posts ≡ false). simp (f, and-false))) in
-    let ring : l.ring.0 ≤ mostNumber = leb-true l.ring.0 mostNumber (part e (λ (f : leb l.ring.0 mostNumber ≡ false). simp (f, and-false))) in
-    let first : allWithin 1 mostId (ids l) ≡ true = part e (λ (f : allWithin 1 mostId (ids l) ≡ false). simp (f, and-false)) in
-    let rest : allZero (drop l.count l.members) ≡ true = part e (λ (f : allZero (drop l.count l.members) ≡ false). simp (f, and-false)) in
+    let own : r.own ≤ most_id = leb-true r.own most_id (part e (λ (f : leb r.own most_id ≡ false). simp (f, and-false))) in
+    let log = log-range l (part e (λ (f : log_in_range l ≡ false). simp (f, and-false))) in
+    let turn = turn-range r.turn (part e (λ (f : turn_in_range r.turn ≡ false). simp (f, and-false))) in
+    let posts = posts-range r.posts (part e (λ (f : posts_in_range r.posts ≡ false). simp (f, and-false))) in
+    let ring : l.ring.0 ≤ most_number = leb-true l.ring.0 most_number (part e (λ (f : leb l.ring.0 most_number ≡ false). simp (f, and-false))) in
+    let first : all_within 1 most_id (ids l) ≡ true = part e (λ (f : all_within 1 most_id (ids l) ≡ false). simp (f, and-false)) in
+    let rest : all_zero (drop l.count l.members) ≡ true = part e (λ (f : all_zero (drop l.count l.members) ≡ false). simp (f, and-false)) in
     let panel : r.panel ≡ undelivered l = eqb-true r.panel (undelivered l) (part e (λ (f : eqb r.panel (undelivered l) ≡ false). rw f)) in
     record {
       own = omega (arith, own);

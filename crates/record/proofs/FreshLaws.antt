@@ -8,16 +8,16 @@ use native.Mathlib.Numerals.{add-one}
 use native.Mathlib.Omega.{arith}
 use lib.ListN.{length, get_or, set, take, drop, replicate, length-append, length-replicate, get_or-replicate}
 use lib.Seq.{take-suc, set_at, append_snoc, take_all, length-take-le, take-append_seam, drop-append_seam}
-use Rattle.words.specs.Scan.{every, allZero}
-use Rattle.record.specs.Size.{mostMembers, mostHeld}
-use Rattle.record.specs.Count.{everyFrom}
-use Rattle.record.specs.Held.{place_of, inWindow, holds}
+use Rattle.words.specs.Scan.{every, all_zero}
+use Rattle.record.specs.Size.{most_members, most_held}
+use Rattle.record.specs.Count.{every_from}
+use Rattle.record.specs.Held.{place_of, in_window, holds}
 use Rattle.record.specs.Panel.{undelivered}
 use Rattle.record.specs.Members.{foundable}
-use Rattle.record.specs.Fresh.{freshHeld, membersPlaced, freshLog, freshTurn, freshPosts, fresh}
+use Rattle.record.specs.Fresh.{fresh_held, members_placed, fresh_log, fresh_turn, fresh_posts, fresh}
 use Rattle.record.specs.Ring.{ids as ids_of}
 use Rattle.record.specs.declared.log.Log.{Log}
-use Rattle.record.specs.Whole.{heldInRange, numbersInRange, logInRange, turnInRange, postsInRange, sendersAreMembers, resendPasses, marksInOrder, arusReached, heldToLevel, nextNotHeld, contentsPadded, freePlacesZero, logUnusedZero, postsUnusedZero, turnUnusedZero, logWhole, turnWhole, postsWhole, panelRight, partsWhole, whole}
+use Rattle.record.specs.Whole.{held_in_range, numbers_in_range, log_in_range, turn_in_range, posts_in_range, senders_are_members, resend_passes, marks_in_order, arus_reached, held_to_level, next_not_held, contents_padded, free_places_zero, log_unused_zero, posts_unused_zero, turn_unused_zero, log_whole, turn_whole, posts_whole, panel_right, parts_whole, whole}
 use Rattle.record.proofs.MemberLaws.{foundable-facts, own-most}
 use Rattle.record.proofs.ListLaws.{most-zeros, all-within}
 use Rattle.record.proofs.RangeLaws.{numbers-below}
@@ -25,87 +25,87 @@ use Rattle.record.proofs.TallyLaws.{undelivered-none}
 
 -- ---- a loop that places the members
 
-pub placed-none : (ids : List ℕ) → replicate mostMembers 0 ≡ membersPlaced (take 0 ids)
-unfolding membersPlaced
+pub placed-none : (ids : List ℕ) → replicate most_members 0 ≡ members_placed (take 0 ids)
+unfolding members_placed
 placed-none ids = refl
 
 pub placed-next : (ids : List ℕ) (i : ℕ)
     → i < length ids
-    → length ids ≤ mostMembers
-    → set (membersPlaced (take i ids)) i (get_or ids i 0) ≡ membersPlaced (take (i + 1) ids)
-unfolding membersPlaced
+    → length ids ≤ most_members
+    → set (members_placed (take i ids)) i (get_or ids i 0) ≡ members_placed (take (i + 1) ids)
+unfolding members_placed
 placed-next ids i h room =
     let here : length (take i ids) ≡ i = length-take-le i ids (omega arith) in
     let after : length (take (suc i) ids) ≡ suc i = length-take-le (suc i) ids (omega arith) in
-    let left : mostMembers - i ≡ suc (mostMembers - suc i) = omega arith in
-    let set_here = set_at (take i ids) 0 (replicate (mostMembers - suc i) 0) (get_or ids i 0) i here in
+    let left : most_members - i ≡ suc (most_members - suc i) = omega arith in
+    let set_here = set_at (take i ids) 0 (replicate (most_members - suc i) 0) (get_or ids i 0) i here in
     rw (add-one i, after, here, left, take-suc ids i 0 h, append_snoc, set_here)
 
-pub placed-all : (ids members : List ℕ) (i : ℕ) → members ≡ membersPlaced (take i ids) → length ids ≤ i → members ≡ membersPlaced ids
+pub placed-all : (ids members : List ℕ) (i : ℕ) → members ≡ members_placed (take i ids) → length ids ≤ i → members ≡ members_placed ids
 placed-all ids members i e h = e ∙ rw (take_all i ids h)
 
 -- ---- a fresh record is whole
 
-posts-whole : postsWhole freshPosts ≡ true
-unfolding postsWhole postsInRange postsUnusedZero contentsPadded freshPosts every everyFrom
+posts-whole : posts_whole fresh_posts ≡ true
+unfolding posts_whole posts_in_range posts_unused_zero contents_padded fresh_posts every every_from
 posts-whole = refl
 
-placed-length : (ids : List ℕ) → length ids ≤ mostMembers → length (membersPlaced ids) ≡ mostMembers
-unfolding membersPlaced
-placed-length ids few = length-append ids (replicate (mostMembers - length ids) 0) ∙ rw length-replicate (omega arith)
+placed-length : (ids : List ℕ) → length ids ≤ most_members → length (members_placed ids) ≡ most_members
+unfolding members_placed
+placed-length ids few = length-append ids (replicate (most_members - length ids) 0) ∙ rw length-replicate (omega arith)
 
-pub placed-front : (ids : List ℕ) → take (length ids) (membersPlaced ids) ≡ ids
-unfolding membersPlaced
-placed-front ids = take-append_seam ids (replicate (mostMembers - length ids) 0)
+pub placed-front : (ids : List ℕ) → take (length ids) (members_placed ids) ≡ ids
+unfolding members_placed
+placed-front ids = take-append_seam ids (replicate (most_members - length ids) 0)
 
-placed-rest : (ids : List ℕ) → allZero (drop (length ids) (membersPlaced ids)) ≡ true
-unfolding membersPlaced
-placed-rest ids = rw (drop-append_seam ids (replicate (mostMembers - length ids) 0)) (all-within 0 (replicate (mostMembers - length ids) 0) (most-zeros 0 (mostMembers - length ids)))
+placed-rest : (ids : List ℕ) → all_zero (drop (length ids) (members_placed ids)) ≡ true
+unfolding members_placed
+placed-rest ids = rw (drop-append_seam ids (replicate (most_members - length ids) 0)) (all-within 0 (replicate (most_members - length ids) 0) (most-zeros 0 (most_members - length ids)))
 
 module _ (ids : List ℕ) (own ring : ℕ) where
   abbrev log : Log
-  log = freshLog ids ring
+  log = fresh_log ids ring
 
-  numbers-in-range : numbersInRange log ≡ true
-  unfolding freshLog
+  numbers-in-range : numbers_in_range log ≡ true
+  unfolding fresh_log
   numbers-in-range = sym (numbers-below log (omega arith))
 
-  log-in-range : length ids ≤ mostMembers → logInRange log ≡ true
-  unfolding logInRange heldInRange freshLog freshHeld every
+  log-in-range : length ids ≤ most_members → log_in_range log ≡ true
+  unfolding log_in_range held_in_range fresh_log fresh_held every
   log-in-range few = rw (eq-eqb _ _ (placed-length ids few), le-leb _ _ few, numbers-in-range)
 
-  senders-members : sendersAreMembers (ids_of log) log.held.senders ≡ true
-  unfolding sendersAreMembers freshLog freshHeld every
+  senders-members : senders_are_members (ids_of log) log.held.senders ≡ true
+  unfolding senders_are_members fresh_log fresh_held every
   senders-members = refl
 
   log-founded : foundable ids own ring ≡ true → foundable (ids_of log) own log.ring.0 ≡ true
-  unfolding freshLog
+  unfolding fresh_log
   log-founded e = rw (placed-front ids, e)
 
-  log-marks : (marksInOrder log ≡ true) × (heldToLevel log ≡ true) × (nextNotHeld log ≡ true)
-  unfolding marksInOrder heldToLevel nextNotHeld holds freshLog freshHeld everyFrom
+  log-marks : (marks_in_order log ≡ true) × (held_to_level log ≡ true) × (next_not_held log ≡ true)
+  unfolding marks_in_order held_to_level next_not_held holds fresh_log fresh_held every_from
   log-marks = (refl, refl, refl)
 
-  log-unused : logUnusedZero log ≡ true
-  unfolding logUnusedZero freePlacesZero contentsPadded freshLog freshHeld every everyFrom
+  log-unused : log_unused_zero log ≡ true
+  unfolding log_unused_zero free_places_zero contents_padded fresh_log fresh_held every every_from
   log-unused = rw (placed-rest ids)
 
-  log-whole : foundable ids own ring ≡ true → logWhole own log ≡ true
-  unfolding logWhole
+  log-whole : foundable ids own ring ≡ true → log_whole own log ≡ true
+  unfolding log_whole
   log-whole e = rw (log-in-range (foundable-facts ids own ring e).few, senders-members, log-founded e, log-marks.0, log-marks.1, log-marks.2, log-unused)
 
-  turn-whole : turnWhole log freshTurn ≡ true
-  unfolding turnWhole turnInRange resendPasses arusReached turnUnusedZero freshLog freshTurn every
+  turn-whole : turn_whole log fresh_turn ≡ true
+  unfolding turn_whole turn_in_range resend_passes arus_reached turn_unused_zero fresh_log fresh_turn every
   turn-whole = refl
 
   -- nothing is held
   none-held : (n : ℕ) → holds log n ≡ false
-  unfolding holds freshLog freshHeld
-  none-held n = rw (get_or-replicate {A = ℕ} mostHeld (place_of n) 0 0 (omega arith)) (and-false (inWindow log n))
+  unfolding holds fresh_log fresh_held
+  none-held n = rw (get_or-replicate {A = ℕ} most_held (place_of n) 0 0 (omega arith)) (and-false (in_window log n))
 
   pub fresh-shows : undelivered log ≡ 0
   fresh-shows = undelivered-none log none-held
 
   pub fresh-whole : foundable ids own ring ≡ true → whole (fresh ids own ring) ≡ true
-  unfolding whole panelRight partsWhole fresh
+  unfolding whole panel_right parts_whole fresh
   fresh-whole e = rw (fresh-shows, le-leb _ _ (own-most ids own (foundable-facts ids own ring e)), log-whole e, turn-whole, posts-whole)

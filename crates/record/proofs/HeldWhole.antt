@@ -9,13 +9,13 @@ use native.Mathlib.Decide.{ℕ_discrete}
 use native.Mathlib.Omega.{arith}
 use lib.ListN.{length, get_or, set, take, drop, replicate, length-set, length-replicate}
 use lib.Seq.{sets, get_or-set_same, get_or-set_other}
-use Rattle.frames.specs.Number.{mostId}
-use Rattle.frames.specs.Layout.{mostService, mostContent}
-use Rattle.record.specs.Size.{mostHeld}
+use Rattle.frames.specs.Number.{most_id}
+use Rattle.frames.specs.Layout.{most_service, most_content}
+use Rattle.record.specs.Size.{most_held}
 use Rattle.record.specs.Contents.{padding}
-use Rattle.record.specs.Members.{isMember}
-use Rattle.record.specs.Held.{Entry, place_of, heldWith, cleared, clearedFrom}
-use Rattle.record.specs.Whole.{contentsPadded}
+use Rattle.record.specs.Members.{is_member}
+use Rattle.record.specs.Held.{Entry, place_of, held_with, cleared, cleared_from}
+use Rattle.record.specs.Whole.{contents_padded}
 use Rattle.record.specs.declared.log.Held.{Held}
 use Rattle.record.proofs.RangeFacts.{HeldRange}
 use Rattle.record.proofs.ListLaws.{part-written, place-apart, Most, most-set, most-zeros}
@@ -25,43 +25,43 @@ use Rattle.record.proofs.HeldLaws.{held-sizes, sizes-with, sizes-cleared}
 -- a message that may be held
 pub record EntryGood (members : List ℕ) (e : Entry) : Type 0 where
   pub named : e.sender ≢ 0
-  pub sender : e.sender ≤ mostId
-  pub member : isMember members e.sender ≡ true
-  pub service : e.service ≤ mostService
-  pub short : length e.content ≤ mostContent
+  pub sender : e.sender ≤ most_id
+  pub member : is_member members e.sender ≡ true
+  pub service : e.service ≤ most_service
+  pub short : length e.content ≤ most_content
 
 pub record HeldGood (members : List ℕ) (h : Held) : Type 0 where
   pub range : HeldRange h
-  pub known : (place : ℕ) → get_or h.senders place 0 ≢ 0 → isMember members (get_or h.senders place 0) ≡ true
-  pub free : (place : ℕ) → place < mostHeld → get_or h.senders place 0 ≡ 0 → (get_or h.services place 0 ≡ 0) × (get_or h.lengths place 0 ≡ 0)
-  pub padded : contentsPadded h.lengths h.contents ≡ true
+  pub known : (place : ℕ) → get_or h.senders place 0 ≢ 0 → is_member members (get_or h.senders place 0) ≡ true
+  pub free : (place : ℕ) → place < most_held → get_or h.senders place 0 ≡ 0 → (get_or h.services place 0 ≡ 0) × (get_or h.lengths place 0 ≡ 0)
+  pub padded : contents_padded h.lengths h.contents ≡ true
 
 -- ---- one more, at a free place
 
-module _ (members : List ℕ) (h : Held) (place : ℕ) (e : Entry) (good : HeldGood members h) (inside : place < mostHeld)
+module _ (members : List ℕ) (h : Held) (place : ℕ) (e : Entry) (good : HeldGood members h) (inside : place < most_held)
     (free : get_or h.senders place 0 ≡ 0) (fits : EntryGood members e) where
-  with-range : HeldRange (heldWith h place e)
-  unfolding heldWith
+  with-range : HeldRange (held_with h place e)
+  unfolding held_with
   with-range =
       let r = good.range in
       let s = sizes-with h place e (held-sizes h r) fits.short in
       record {
         arrays = s.arrays;
-        senders = most-set mostId h.senders place e.sender r.senders fits.sender;
-        services = most-set mostService h.services place e.service r.services fits.service;
+        senders = most-set most_id h.senders place e.sender r.senders fits.sender;
+        services = most-set most_service h.services place e.service r.services fits.service;
         lengths = s.short;
       }
 
-  with-known : (p : ℕ) → get_or (heldWith h place e).senders p 0 ≢ 0 → isMember members (get_or (heldWith h place e).senders p 0) ≡ true
-  unfolding heldWith
+  with-known : (p : ℕ) → get_or (held_with h place e).senders p 0 ≢ 0 → is_member members (get_or (held_with h place e).senders p 0) ≡ true
+  unfolding held_with
   with-known p some =
       elim (ℕ_discrete p place) [
         | yes q ↦ rw (q, get_or-set_same h.senders place e.sender 0 (omega (arith, good.range.arrays.senders))) fits.member
         | no q ↦ rw (get_or-set_other h.senders place p e.sender 0 q) (good.known p (rw (get_or-set_other h.senders place p e.sender 0 q) at some))
       ]
 
-  with-free : (p : ℕ) → p < mostHeld → get_or (heldWith h place e).senders p 0 ≡ 0 → (get_or (heldWith h place e).services p 0 ≡ 0) × (get_or (heldWith h place e).lengths p 0 ≡ 0)
-  unfolding heldWith
+  with-free : (p : ℕ) → p < most_held → get_or (held_with h place e).senders p 0 ≡ 0 → (get_or (held_with h place e).services p 0 ≡ 0) × (get_or (held_with h place e).lengths p 0 ≡ 0)
+  unfolding held_with
   with-free p p< none =
       elim (ℕ_discrete p place) [
         | yes q ↦ absurd (fits.named (sym (get_or-set_same h.senders place e.sender 0 (omega (arith, good.range.arrays.senders))) ∙ rw q at none))
@@ -70,16 +70,16 @@ module _ (members : List ℕ) (h : Held) (place : ℕ) (e : Entry) (good : HeldG
             (good.free p p< (rw (get_or-set_other h.senders place p e.sender 0 q) at none))
       ]
 
-  with-padded : contentsPadded (heldWith h place e).lengths (heldWith h place e).contents ≡ true
-  unfolding heldWith
+  with-padded : contents_padded (held_with h place e).lengths (held_with h place e).contents ≡ true
+  unfolding held_with
   with-padded = padded-with h.lengths h.contents place e.content fits.short good.padded good.range.lengths (good.free place inside free).1
 
-  pub with-good : HeldGood members (heldWith h place e)
+  pub with-good : HeldGood members (held_with h place e)
   with-good = record { range = with-range; known = with-known; free = with-free; padded = with-padded }
 
 -- ---- a place is cleared
 
-module _ (members : List ℕ) (h : Held) (place : ℕ) (good : HeldGood members h) (inside : place < mostHeld) where
+module _ (members : List ℕ) (h : Held) (place : ℕ) (good : HeldGood members h) (inside : place < most_held) where
   cleared-range : HeldRange (cleared h place)
   unfolding cleared
   cleared-range =
@@ -87,12 +87,12 @@ module _ (members : List ℕ) (h : Held) (place : ℕ) (good : HeldGood members 
       let s = sizes-cleared h place (held-sizes h r) in
       record {
         arrays = s.arrays;
-        senders = most-set mostId h.senders place 0 r.senders (omega arith);
-        services = most-set mostService h.services place 0 r.services (omega arith);
+        senders = most-set most_id h.senders place 0 r.senders (omega arith);
+        services = most-set most_service h.services place 0 r.services (omega arith);
         lengths = s.short;
       }
 
-  cleared-known : (p : ℕ) → get_or (cleared h place).senders p 0 ≢ 0 → isMember members (get_or (cleared h place).senders p 0) ≡ true
+  cleared-known : (p : ℕ) → get_or (cleared h place).senders p 0 ≢ 0 → is_member members (get_or (cleared h place).senders p 0) ≡ true
   unfolding cleared
   cleared-known p some =
       elim (ℕ_discrete p place) [
@@ -100,7 +100,7 @@ module _ (members : List ℕ) (h : Held) (place : ℕ) (good : HeldGood members 
         | no q ↦ rw (get_or-set_other h.senders place p 0 0 q) (good.known p (rw (get_or-set_other h.senders place p 0 0 q) at some))
       ]
 
-  cleared-free : (p : ℕ) → p < mostHeld → get_or (cleared h place).senders p 0 ≡ 0 → (get_or (cleared h place).services p 0 ≡ 0) × (get_or (cleared h place).lengths p 0 ≡ 0)
+  cleared-free : (p : ℕ) → p < most_held → get_or (cleared h place).senders p 0 ≡ 0 → (get_or (cleared h place).services p 0 ≡ 0) × (get_or (cleared h place).lengths p 0 ≡ 0)
   unfolding cleared
   cleared-free p p< none =
       elim (ℕ_discrete p place) [
@@ -113,21 +113,21 @@ module _ (members : List ℕ) (h : Held) (place : ℕ) (good : HeldGood members 
       ]
 
   abbrev zeros : List ℕ
-  zeros = replicate mostContent 0
+  zeros = replicate most_content 0
 
   -- of the place itself: all its bytes are zero
-  own-padding : Most 0 (padding (set h.lengths place 0) (sets h.contents (mostContent * place) zeros) place)
+  own-padding : Most 0 (padding (set h.lengths place 0) (sets h.contents (most_content * place) zeros) place)
   own-padding =
-      let written : take mostContent (drop (mostContent * place) (sets h.contents (mostContent * place) zeros)) ≡ zeros = part-written (mostContent * place) zeros h.contents (omega (arith, length-replicate {A = ℕ} mostContent 0, good.range.arrays.contents)) in
-      rw (get_or-set_same h.lengths place 0 0 (omega (arith, good.range.arrays.lengths)), add-zero, written) (most-zeros 0 mostContent)
+      let written : take most_content (drop (most_content * place) (sets h.contents (most_content * place) zeros)) ≡ zeros = part-written (most_content * place) zeros h.contents (omega (arith, length-replicate {A = ℕ} most_content 0, good.range.arrays.contents)) in
+      rw (get_or-set_same h.lengths place 0 0 (omega (arith, good.range.arrays.lengths)), add-zero, written) (most-zeros 0 most_content)
 
-  other-padding : (p : ℕ) → p < length h.lengths → p ≢ place → Most 0 (padding (set h.lengths place 0) (sets h.contents (mostContent * place) zeros) p)
+  other-padding : (p : ℕ) → p < length h.lengths → p ≢ place → Most 0 (padding (set h.lengths place 0) (sets h.contents (most_content * place) zeros) p)
   other-padding p p< q =
       let n = get_or h.lengths p 0 in
-      rw (get_or-set_other h.lengths place p 0 0 q, place-apart p place n (mostContent - n) zeros h.contents q (omega (arith, good.range.lengths p)) (omega (arith, length-replicate {A = ℕ} mostContent 0)))
+      rw (get_or-set_other h.lengths place p 0 0 q, place-apart p place n (most_content - n) zeros h.contents q (omega (arith, good.range.lengths p)) (omega (arith, length-replicate {A = ℕ} most_content 0)))
       (padded-at h.lengths h.contents good.padded p p<)
 
-  each-padding : (p : ℕ) → p < length (set h.lengths place 0) → Most 0 (padding (set h.lengths place 0) (sets h.contents (mostContent * place) zeros) p)
+  each-padding : (p : ℕ) → p < length (set h.lengths place 0) → Most 0 (padding (set h.lengths place 0) (sets h.contents (most_content * place) zeros) p)
   each-padding p p< =
       let p<l : p < length h.lengths = rw (length-set h.lengths place 0) at p< in
       elim (ℕ_discrete p place) [
@@ -135,14 +135,14 @@ module _ (members : List ℕ) (h : Held) (place : ℕ) (good : HeldGood members 
         | no q ↦ other-padding p p<l q
       ]
 
-  cleared-padded : contentsPadded (cleared h place).lengths (cleared h place).contents ≡ true
+  cleared-padded : contents_padded (cleared h place).lengths (cleared h place).contents ≡ true
   unfolding cleared
-  cleared-padded = padded-from (set h.lengths place 0) (sets h.contents (mostContent * place) zeros) each-padding
+  cleared-padded = padded-from (set h.lengths place 0) (sets h.contents (most_content * place) zeros) each-padding
 
   pub cleared-good : HeldGood members (cleared h place)
   cleared-good = record { range = cleared-range; known = cleared-known; free = cleared-free; padded = cleared-padded }
 
-pub cleared-from-good : (members : List ℕ) (h : Held) (first n : ℕ) → HeldGood members h → HeldGood members (clearedFrom h first n)
-unfolding clearedFrom
+pub cleared-from-good : (members : List ℕ) (h : Held) (first n : ℕ) → HeldGood members h → HeldGood members (cleared_from h first n)
+unfolding cleared_from
 cleared-from-good members h first zero good = good
 cleared-from-good members h first (suc n) good = cleared-from-good members (cleared h (place_of first)) (suc first) n (cleared-good members h (place_of first) good (omega arith))

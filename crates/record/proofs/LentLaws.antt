@@ -9,69 +9,69 @@ use lib.ListN.{length, take, drop}
 use lib.Seq.{drop-drop}
 use Rattle.words.specs.Word.{word_at}
 use Rattle.words.specs.Scan.{every}
-use Rattle.record.specs.Count.{numbersAfter, those}
-use Rattle.record.specs.Held.{holds, heldNumbers}
+use Rattle.record.specs.Count.{numbers_after, those}
+use Rattle.record.specs.Held.{holds, held_numbers}
 use Rattle.record.specs.Members.{foundable}
-use Rattle.record.specs.Size.{postContents}
-use Rattle.record.specs.Layout.{recordSize, panelAt, log_at, postsAt, heldMessagesAt, heldContentsAt, postContentsAt}
-use Rattle.record.specs.inner.Head.{logOn, recordOn, recordIn, recordHead, contentsIn, waitingIn}
+use Rattle.record.specs.Size.{post_contents}
+use Rattle.record.specs.Layout.{record_size, panel_at, log_at, posts_at, held_messages_at, held_contents_at, post_contents_at}
+use Rattle.record.specs.inner.Head.{log_on, record_on, record_in, record_head, contents_in, waiting_in}
 use Rattle.record.specs.declared.head.Head.{Head}
-use Rattle.record.specs.Fresh.{freshHeld, membersPlaced, freshLog, fresh}
-use Rattle.record.specs.Whole.{heldInRange, numbersInRange, logInRange, sendersAreMembers, logWhole, panelRight, partsWhole, whole}
-use Rattle.record.specs.Bytes.{held_of, logOf, postsOf, recordOf}
-use Rattle.record.specs.Lent.{noRecord, lent, bytesWhole}
+use Rattle.record.specs.Fresh.{fresh_held, members_placed, fresh_log, fresh}
+use Rattle.record.specs.Whole.{held_in_range, numbers_in_range, log_in_range, senders_are_members, log_whole, panel_right, parts_whole, whole}
+use Rattle.record.specs.Bytes.{held_of, log_of, posts_of, record_of}
+use Rattle.record.specs.Lent.{no_record, lent, bytes_whole}
 use Rattle.record.specs.Panel.{undelivered}
 use Rattle.record.specs.RoundTrip.{OtherLength}
 use Rattle.record.proofs.GetLaws.{contents-there, waiting-there}
 use Rattle.record.proofs.WholeFacts.{whole-good}
 
-pub lent_of : (s : List ℕ) → length s ≡ recordSize → lent s ≡ recordOf s
+pub lent_of : (s : List ℕ) → length s ≡ record_size → lent s ≡ record_of s
 unfolding lent
-lent_of s e = rw (eq-eqb (length s) recordSize e)
+lent_of s e = rw (eq-eqb (length s) record_size e)
 
-pub lent_none : (s : List ℕ) → (length s ≡ recordSize → ⊥) → lent s ≡ noRecord
+pub lent_none : (s : List ℕ) → (length s ≡ record_size → ⊥) → lent s ≡ no_record
 unfolding lent
-lent_none s other = rw (ne_eqb (length s) recordSize other)
+lent_none s other = rw (ne_eqb (length s) record_size other)
 
-pub own-head : (s : List ℕ) (h : Head) → whole (lent s) ≡ true → length s ≡ recordSize → h ≡ recordHead (lent s) → recordIn h s ≡ lent s
+pub own-head : (s : List ℕ) (h : Head) → whole (lent s) ≡ true → length s ≡ record_size → h ≡ record_head (lent s) → record_in h s ≡ lent s
 own-head s h w long e =
-    let shows : (recordOf s).panel ≡ undelivered (recordOf s).log = rw (lent_of s long) at (whole-good (lent s) w).panel in
+    let shows : (record_of s).panel ≡ undelivered (record_of s).log = rw (lent_of s long) at (whole-good (lent s) w).panel in
     rw (e, lent_of s long, contents-there s, waiting-there s, ← shows)
 
 -- the record in bytes of its length, looked at where it stands
-module _ (s : List ℕ) (h : Head) (long : length s ≡ recordSize) (e : h ≡ recordHead (lent s)) (shown : ℕ) (reads : shown ≡ word_at 1 s panelAt) where
-  log-there : logOn h.log (contentsIn s log_at) ≡ (recordOf s).log
+module _ (s : List ℕ) (h : Head) (long : length s ≡ record_size) (e : h ≡ record_head (lent s)) (shown : ℕ) (reads : shown ≡ word_at 1 s panel_at) where
+  log-there : log_on h.log (contents_in s log_at) ≡ (record_of s).log
   log-there = rw (e, lent_of s long, contents-there s)
 
-  panel-there : shown ≡ (recordOf s).panel
-  unfolding recordOf
+  panel-there : shown ≡ (record_of s).panel
+  unfolding record_of
   panel-there = reads
 
-  pub shown-wrong : (count : ℕ) → ((contents : List ℕ) → count ≡ undelivered (logOn h.log contents)) → (shown ≡ count → ⊥) → false ≡ bytesWhole s
-  unfolding whole panelRight
+  pub shown-wrong : (count : ℕ) → ((contents : List ℕ) → count ≡ undelivered (log_on h.log contents)) → (shown ≡ count → ⊥) → false ≡ bytes_whole s
+  unfolding whole panel_right
   shown-wrong count counts ne =
-      let is : count ≡ undelivered (recordOf s).log = counts (contentsIn s log_at) ∙ ap undelivered log-there in
-      let apart : (recordOf s).panel ≡ undelivered (recordOf s).log → ⊥ = λ q. ne (panel-there ∙ q ∙ sym is) in
-      rw (lent_of s long, ne_eqb (recordOf s).panel (undelivered (recordOf s).log) apart)
+      let is : count ≡ undelivered (record_of s).log = counts (contents_in s log_at) ∙ ap undelivered log-there in
+      let apart : (record_of s).panel ≡ undelivered (record_of s).log → ⊥ = λ q. ne (panel-there ∙ q ∙ sym is) in
+      rw (lent_of s long, ne_eqb (record_of s).panel (undelivered (record_of s).log) apart)
 
   pub whole-there : (count : ℕ) (b : Bool)
-      → ((contents : List ℕ) → count ≡ undelivered (logOn h.log contents))
+      → ((contents : List ℕ) → count ≡ undelivered (log_on h.log contents))
       → shown ≡ count
-      → b ≡ partsWhole (recordOn h (contentsIn s log_at) (take (length s - (postsAt + postContentsAt)) (drop (postsAt + postContentsAt) s)))
-      → b ≡ bytesWhole s
-  unfolding whole panelRight partsWhole
+      → b ≡ parts_whole (record_on h (contents_in s log_at) (take (length s - (posts_at + post_contents_at)) (drop (posts_at + post_contents_at) s)))
+      → b ≡ bytes_whole s
+  unfolding whole panel_right parts_whole
   whole-there count b counts same f =
-      let left : length s - (postsAt + postContentsAt) ≡ postContents = omega (arith, long) in
-      let is : (recordOf s).panel ≡ undelivered (recordOf s).log = sym panel-there ∙ same ∙ counts (contentsIn s log_at) ∙ ap undelivered log-there in
-      rw (lent_of s long, eq-eqb (recordOf s).panel (undelivered (recordOf s).log) is) (rw (left, e, lent_of s long, contents-there s, waiting-there s) at f)
+      let left : length s - (posts_at + post_contents_at) ≡ post_contents = omega (arith, long) in
+      let is : (record_of s).panel ≡ undelivered (record_of s).log = sym panel-there ∙ same ∙ counts (contents_in s log_at) ∙ ap undelivered log-there in
+      rw (lent_of s long, eq-eqb (record_of s).panel (undelivered (record_of s).log) is) (rw (left, e, lent_of s long, contents-there s, waiting-there s) at f)
 
-no-parts-whole : partsWhole noRecord ≡ false
-unfolding every numbersAfter those holds heldNumbers foundable freshHeld membersPlaced freshLog fresh heldInRange numbersInRange logInRange sendersAreMembers logWhole partsWhole
+no-parts-whole : parts_whole no_record ≡ false
+unfolding every numbers_after those holds held_numbers foundable fresh_held members_placed fresh_log fresh held_in_range numbers_in_range log_in_range senders_are_members log_whole parts_whole
 no-parts-whole = refl
 
-pub no-record-whole : whole noRecord ≡ false
+pub no-record-whole : whole no_record ≡ false
 unfolding whole
-no-record-whole = rw no-parts-whole (and-false (panelRight noRecord))
+no-record-whole = rw no-parts-whole (and-false (panel_right no_record))
 
 pub other_length : OtherLength
 other_length s other = rw (lent_none s other, no-record-whole)

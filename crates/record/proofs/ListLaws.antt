@@ -11,8 +11,8 @@ use native.Mathlib.Omega.{arith}
 use lib.ListN.{length, get_or, set, take, drop, replicate, length-append, length-drop, length-replicate, get_or-append, take-append-drop}
 use lib.Dec.{leb-zero}
 use lib.Seq.{sets, sets-eq, take_at, drop_at, take-set-le, drop-set-lt, drop-set-add, length-take-le, get_or-set_same, get_or-set_other, get_or-drop, drop-drop, drop-append-le, take-append-le, take-nil, take_all}
-use Rattle.words.specs.Scan.{every, allWithin, allZero}
-use Rattle.frames.specs.Layout.{mostContent}
+use Rattle.words.specs.Scan.{every, all_within, all_zero}
+use Rattle.frames.specs.Layout.{most_content}
 use Rattle.frames.proofs.TokenLaws.{drop-replicate}
 
 -- ---- a part that the stores don't touch
@@ -52,28 +52,28 @@ stands n l at h =
 -- a store at one place leaves the others
 pub place-apart : (p q k n : ℕ) (vs l : List ℕ)
     → p ≢ q
-    → k + n ≤ mostContent
-    → length vs ≤ mostContent
-    → take n (drop (mostContent * p + k) (sets l (mostContent * q) vs)) ≡ take n (drop (mostContent * p + k) l)
+    → k + n ≤ most_content
+    → length vs ≤ most_content
+    → take n (drop (most_content * p + k) (sets l (most_content * q) vs)) ≡ take n (drop (most_content * p + k) l)
 place-apart p q k n vs l apart inside short =
     elim (dec_lt p q) [
-      | yes h ↦ part-before n (mostContent * p + k) (mostContent * q) vs l (omega arith)
-      | no h ↦ ap (take n) (part-after (mostContent * p + k) (mostContent * q) vs l (omega arith))
+      | yes h ↦ part-before n (most_content * p + k) (most_content * q) vs l (omega arith)
+      | no h ↦ ap (take n) (part-after (most_content * p + k) (most_content * q) vs l (omega arith))
     ]
 
 -- the content at a place, its length in a list beside: what is stored there is read there
 pub content-same : (lengths contents : List ℕ) (place : ℕ) (content : List ℕ)
     → place < length lengths
-    → mostContent * place + length content ≤ length contents
-    → take (get_or (set lengths place (length content)) place 0) (drop (mostContent * place) (sets contents (mostContent * place) content)) ≡ content
-content-same lengths contents place content h room = rw (get_or-set_same lengths place (length content) 0 h) (part-written (mostContent * place) content contents room)
+    → most_content * place + length content ≤ length contents
+    → take (get_or (set lengths place (length content)) place 0) (drop (most_content * place) (sets contents (most_content * place) content)) ≡ content
+content-same lengths contents place content h room = rw (get_or-set_same lengths place (length content) 0 h) (part-written (most_content * place) content contents room)
 
 -- the others stay
 pub content-other : (lengths contents : List ℕ) (p place n : ℕ) (vs : List ℕ)
     → p ≢ place
-    → get_or lengths p 0 ≤ mostContent
-    → length vs ≤ mostContent
-    → take (get_or (set lengths place n) p 0) (drop (mostContent * p) (sets contents (mostContent * place) vs)) ≡ take (get_or lengths p 0) (drop (mostContent * p) contents)
+    → get_or lengths p 0 ≤ most_content
+    → length vs ≤ most_content
+    → take (get_or (set lengths place n) p 0) (drop (most_content * p) (sets contents (most_content * place) vs)) ≡ take (get_or lengths p 0) (drop (most_content * p) contents)
 content-other lengths contents p place n vs apart short few =
     rw (get_or-set_other lengths place p n 0 apart)
     (rw add-zero at (place-apart p place 0 (get_or lengths p 0) vs contents apart (omega arith) few))
@@ -96,13 +96,13 @@ moved-number l n k h = get_or-append (drop n l) (replicate n 0) 0 k (simp length
 
 -- a part of one content
 pub moved-part : (size : ℕ) (contents : List ℕ) (n place k : ℕ)
-    → mostContent * (n + place) + k + size ≤ length contents
-    → take size (drop (mostContent * place + k) (drop (mostContent * n) contents ++ replicate (mostContent * n) 0)) ≡ take size (drop (mostContent * (n + place) + k) contents)
+    → most_content * (n + place) + k + size ≤ length contents
+    → take size (drop (most_content * place + k) (drop (most_content * n) contents ++ replicate (most_content * n) 0)) ≡ take size (drop (most_content * (n + place) + k) contents)
 moved-part size contents n place k h =
-    let room : mostContent * place + k ≤ length (drop (mostContent * n) contents) = simp length-drop (omega arith) in
-    let e : mostContent * n + (mostContent * place + k) ≡ mostContent * (n + place) + k = omega arith in
-    rw (drop-append-le (mostContent * place + k) (drop (mostContent * n) contents) (replicate (mostContent * n) 0) room, drop-drop, e)
-    (take-append-le size (drop (mostContent * (n + place) + k) contents) (replicate (mostContent * n) 0) (simp length-drop (omega arith)))
+    let room : most_content * place + k ≤ length (drop (most_content * n) contents) = simp length-drop (omega arith) in
+    let e : most_content * n + (most_content * place + k) ≡ most_content * (n + place) + k = omega arith in
+    rw (drop-append-le (most_content * place + k) (drop (most_content * n) contents) (replicate (most_content * n) 0) room, drop-drop, e)
+    (take-append-le size (drop (most_content * (n + place) + k) contents) (replicate (most_content * n) 0) (simp length-drop (omega arith)))
 
 -- ---- a bound on all elements
 
@@ -145,10 +145,10 @@ most-zeros most zero i = omega arith
 most-zeros most (suc n) zero = omega arith
 most-zeros most (suc n) (suc i) = most-zeros most n i
 
-pub all-within : (most : ℕ) (l : List ℕ) → Most most l → allWithin 0 most l ≡ true
+pub all-within : (most : ℕ) (l : List ℕ) → Most most l → all_within 0 most l ≡ true
 unfolding every
 all-within most [] all = refl
 all-within most (x ∷ l) all = rw (leb-zero x, le-leb x most (all zero), all-within most l (λ i. all (suc i)))
 
-pub zeros-zero : (n k : ℕ) → allZero (drop k (replicate n 0)) ≡ true
+pub zeros-zero : (n k : ℕ) → all_zero (drop k (replicate n 0)) ≡ true
 zeros-zero n k = all-within 0 (drop k (replicate n 0)) (most-drop 0 k (replicate n 0) (most-zeros 0 n))

@@ -8,11 +8,11 @@ use native.Mathlib.Decide.{ℕ_discrete}
 use native.Mathlib.Omega.{arith}
 use lib.ListN.{get_or, length-take}
 use lib.Dec.{leb, ltb, eqb}
-use Rattle.frames.specs.Number.{mostNumber}
+use Rattle.frames.specs.Number.{most_number}
 use Rattle.frames.proofs.Facts.{part}
-use Rattle.record.specs.Size.{mostHeld}
+use Rattle.record.specs.Size.{most_held}
 use Rattle.record.specs.Ring.{ids}
-use Rattle.record.specs.Held.{Entry, place_of, inUse, entry_at, holds, stored, let_go}
+use Rattle.record.specs.Held.{Entry, place_of, in_use, entry_at, holds, stored, let_go}
 use Rattle.record.specs.declared.log.Log.{Log}
 use Rattle.record.proofs.HeldLaws.{held-sizes, holds-stored, holds-let-go}
 use Rattle.record.proofs.HeldWhole.{EntryGood, HeldGood, with-good, cleared-from-good}
@@ -21,7 +21,7 @@ use Rattle.record.proofs.HeldWhole.{EntryGood, HeldGood, with-good, cleared-from
 
 pub record Holding (l : Log) (n : ℕ) : Type 0 where
   pub low : l.safe.0 < n
-  pub high : n ≤ l.safe.0 + mostHeld
+  pub high : n ≤ l.safe.0 + most_held
   pub named : get_or l.held.senders (place_of n) 0 ≢ 0
 
 pub holding : (l : Log) (n : ℕ) → holds l n ≡ true → Holding l n
@@ -29,8 +29,8 @@ unfolding holds
 holding l n e =
     record {
       low = ltb-true l.safe.0 n (part e (λ (f : ltb l.safe.0 n ≡ false). rw f));
-      high = leb-true n (l.safe.0 + mostHeld) (part e (λ (f : leb n (l.safe.0 + mostHeld) ≡ false). simp (f, and-false)));
-      named = eqb-false (get_or l.held.senders (place_of n) 0) 0 (not-true (eqb (get_or l.held.senders (place_of n) 0) 0) (part e (λ (f : inUse l.held (place_of n) ≡ false). simp (f, and-false))));
+      high = leb-true n (l.safe.0 + most_held) (part e (λ (f : leb n (l.safe.0 + most_held) ≡ false). simp (f, and-false)));
+      named = eqb-false (get_or l.held.senders (place_of n) 0) 0 (not-true (eqb (get_or l.held.senders (place_of n) 0) 0) (part e (λ (f : in_use l.held (place_of n) ≡ false). simp (f, and-false))));
     }
 
 pub held-when : (l : Log) (n : ℕ) → Holding l n → holds l n ≡ true
@@ -38,7 +38,7 @@ unfolding holds
 held-when l n h =
     rw (
       lt-ltb l.safe.0 n h.low,
-      le-leb n (l.safe.0 + mostHeld) h.high,
+      le-leb n (l.safe.0 + most_held) h.high,
       ne_eqb (get_or l.held.senders (place_of n) 0) 0 h.named,
     )
 
@@ -50,7 +50,7 @@ not-held l n not = go (holds l n) refl
     go false e = e
 
 -- a number of the window that is not held has a free place
-pub free-place : (l : Log) (n : ℕ) → holds l n ≡ false → l.safe.0 < n → n ≤ l.safe.0 + mostHeld → get_or l.held.senders (place_of n) 0 ≡ 0
+pub free-place : (l : Log) (n : ℕ) → holds l n ≡ false → l.safe.0 < n → n ≤ l.safe.0 + most_held → get_or l.held.senders (place_of n) 0 ≡ 0
 free-place l n e low high =
     elim (ℕ_discrete (get_or l.held.senders (place_of n) 0) 0) [
       | yes q ↦ q
@@ -61,7 +61,7 @@ free-place l n e low high =
 
 pub record StockGood (l : Log) : Type 0 where
   pub held : HeldGood (ids l) l.held
-  pub numbers : (n : ℕ) → holds l n ≡ true → n ≤ mostNumber
+  pub numbers : (n : ℕ) → holds l n ≡ true → n ≤ most_number
 
 -- so is each message
 pub entry-good : (l : Log) (n : ℕ) → StockGood l → holds l n ≡ true → EntryGood (ids l) (entry_at l.held (place_of n))
@@ -86,8 +86,8 @@ pub stored-good : (l : Log) (number : ℕ) (e : Entry)
     → StockGood l
     → holds l number ≡ false
     → l.safe.0 < number
-    → number ≤ l.safe.0 + mostHeld
-    → number ≤ mostNumber
+    → number ≤ l.safe.0 + most_held
+    → number ≤ most_number
     → EntryGood (ids l) e
     → StockGood (stored l number e)
 stored-good l number e good free low high most fits =
@@ -96,7 +96,7 @@ stored-good l number e good free low high most fits =
       numbers = numbers;
     }
   where
-    numbers : (n : ℕ) → holds (stored l number e) n ≡ true → n ≤ mostNumber
+    numbers : (n : ℕ) → holds (stored l number e) n ≡ true → n ≤ most_number
     numbers n held =
         let told = rw (holds-stored l number e (held-sizes l.held good.held.range) low high fits.named fits.short n) at held in
         elim (ℕ_discrete n number) [
@@ -106,7 +106,7 @@ stored-good l number e good free low high most fits =
 
 -- ---- everything up to a new safe mark is let go
 
-pub let-go-good : (l : Log) (safe : ℕ) → StockGood l → l.safe.0 ≤ safe → safe ≤ l.safe.0 + mostHeld → StockGood (let_go l safe)
+pub let-go-good : (l : Log) (safe : ℕ) → StockGood l → l.safe.0 ≤ safe → safe ≤ l.safe.0 + most_held → StockGood (let_go l safe)
 unfolding let_go
 let-go-good l safe good low high =
     record {

@@ -10,53 +10,53 @@ use native.Mathlib.Omega.{arith}
 use lib.ListN.{length, get_or, take, drop, replicate, drop_of_length-le, get_or-eq_default}
 use lib.Dec.{leb, eqb}
 use lib.Seq.{get_or-take, get_or-drop}
-use Rattle.words.specs.Scan.{every, allZero}
+use Rattle.words.specs.Scan.{every, all_zero}
 use Rattle.words.proofs.ScanLaws.{within-most}
-use Rattle.frames.specs.Layout.{mostContent}
+use Rattle.frames.specs.Layout.{most_content}
 use Rattle.frames.proofs.Facts.{part}
-use Rattle.record.specs.Count.{everyFrom}
-use Rattle.record.proofs.CountLaws.{each-passes, all_pass}
+use Rattle.record.specs.Count.{every_from}
+use Rattle.record.proofs.CountLaws.{each-passes, all-pass}
 use Rattle.record.proofs.ListLaws.{all-within}
 use Rattle.record.proofs.PlaceLaws.{both_ways}
 
 -- nothing is past it
-pub past_all : (s : List ℕ) (n : ℕ) → length s ≡ mostContent → mostContent ≤ n → true ≡ allZero (drop n s)
+pub past_all : (s : List ℕ) (n : ℕ) → length s ≡ most_content → most_content ≤ n → true ≡ all_zero (drop n s)
 unfolding every
 past_all s n long h = rw (drop_of_length-le s {i = n} (omega (arith, long)))
 
 -- ---- a piece or more is past it: the byte of each of four pieces, the last at 48
 
-abbrev zeroAt : List ℕ → ℕ → Bool
-zeroAt s i = eqb (get_or s i 0) 0
+abbrev zero_at : List ℕ → ℕ → Bool
+zero_at s i = eqb (get_or s i 0) 0
 
-abbrev pub zeroInFour : List ℕ → ℕ → ℕ → ℕ → ℕ → Bool
-zeroInFour s first second third i = ((zeroAt s (first + i) && zeroAt s (second + i)) && zeroAt s (third + i)) && zeroAt s (48 + i)
+abbrev pub zero_in_four : List ℕ → ℕ → ℕ → ℕ → ℕ → Bool
+zero_in_four s first second third i = ((zero_at s (first + i) && zero_at s (second + i)) && zero_at s (third + i)) && zero_at s (48 + i)
 
 module _ (s : List ℕ) (first second third i : ℕ) where
-  in-all-four : zeroAt s (first + i) ≡ true → zeroAt s (second + i) ≡ true → zeroAt s (third + i) ≡ true → zeroAt s (48 + i) ≡ true → zeroInFour s first second third i ≡ true
+  in-all-four : zero_at s (first + i) ≡ true → zero_at s (second + i) ≡ true → zero_at s (third + i) ≡ true → zero_at s (48 + i) ≡ true → zero_in_four s first second third i ≡ true
   in-all-four a b c d = rw (a, b, c, d)
 
-  module _ (e : zeroInFour s first second third i ≡ true) where
-    in-first : zeroAt s (first + i) ≡ true
-    in-first = part e (λ (f : zeroAt s (first + i) ≡ false). rw f)
+  module _ (e : zero_in_four s first second third i ≡ true) where
+    in-first : zero_at s (first + i) ≡ true
+    in-first = part e (λ (f : zero_at s (first + i) ≡ false). rw f)
 
-    in-second : zeroAt s (second + i) ≡ true
-    in-second = part e (λ (f : zeroAt s (second + i) ≡ false). simp (f, and-false))
+    in-second : zero_at s (second + i) ≡ true
+    in-second = part e (λ (f : zero_at s (second + i) ≡ false). simp (f, and-false))
 
-    in-third : zeroAt s (third + i) ≡ true
-    in-third = part e (λ (f : zeroAt s (third + i) ≡ false). simp (f, and-false))
+    in-third : zero_at s (third + i) ≡ true
+    in-third = part e (λ (f : zero_at s (third + i) ≡ false). simp (f, and-false))
 
-    in-last : zeroAt s (48 + i) ≡ true
-    in-last = part e (λ (f : zeroAt s (48 + i) ≡ false). simp (f, and-false))
+    in-last : zero_at s (48 + i) ≡ true
+    in-last = part e (λ (f : zero_at s (48 + i) ≡ false). simp (f, and-false))
 
-module _ (s : List ℕ) (first second third : ℕ) (long : length s ≡ mostContent) (near : first ≤ 48) (next : second ≡ min (first + 16) 48) (after : third ≡ min (first + 32) 48) where
+module _ (s : List ℕ) (first second third : ℕ) (long : length s ≡ most_content) (near : first ≤ 48) (next : second ≡ min (first + 16) 48) (after : third ≡ min (first + 32) 48) where
   abbrev test : ℕ → Bool
-  test = zeroInFour s first second third
+  test = zero_in_four s first second third
 
-  pub padded-by-pieces : (r : Bool) → r ≡ everyFrom (zeroInFour s first second third) 0 16 → r ≡ allZero (drop first s)
+  pub padded-by-pieces : (r : Bool) → r ≡ every_from (zero_in_four s first second third) 0 16 → r ≡ all_zero (drop first s)
   padded-by-pieces r e = e ∙ both_ways _ _ there back
     where
-      there : everyFrom test 0 16 ≡ true → allZero (drop first s) ≡ true
+      there : every_from test 0 16 ≡ true → all_zero (drop first s) ≡ true
       there all = all-within 0 (drop first s) (λ i. rw (get_or-drop first s i 0) (omega (arith, zero i)))
         where
           tested : (i : ℕ) → i < 16 → test i ≡ true
@@ -64,7 +64,7 @@ module _ (s : List ℕ) (first second third : ℕ) (long : length s ≡ mostCont
 
           zero : (i : ℕ) → get_or s (first + i) 0 ≡ 0
           zero i =
-              elim (dec_lt (first + i) mostContent) [
+              elim (dec_lt (first + i) most_content) [
                 | no h ↦ get_or-eq_default s 0 {n = first + i} (omega (arith, long))
                 | yes h ↦ elim (dec_lt (first + i) 48) [
                   | no past ↦
@@ -84,12 +84,12 @@ module _ (s : List ℕ) (first second third : ℕ) (long : length s ≡ mostCont
                 ]
               ]
 
-      back : allZero (drop first s) ≡ true → everyFrom test 0 16 ≡ true
-      back zeros = all_pass test 0 16 (λ i i<.
+      back : all_zero (drop first s) ≡ true → every_from test 0 16 ≡ true
+      back zeros = all-pass test 0 16 (λ i i<.
           rw zero-add
           (in-all-four s first second third i (zero (first + i) (omega arith)) (zero (second + i) (omega (arith, next))) (zero (third + i) (omega (arith, after))) (zero (48 + i) (omega arith))))
         where
-          zero : (j : ℕ) → first ≤ j → zeroAt s j ≡ true
+          zero : (j : ℕ) → first ≤ j → zero_at s j ≡ true
           zero j h =
               let at : first + (j - first) ≡ j = omega arith in
               let none : get_or s (first + (j - first)) 0 ≤ 0 = rw get_or-drop at (within-most 0 0 (drop first s) zeros (j - first)) in
@@ -101,16 +101,16 @@ abbrev pub limits : List ℕ
 limits = replicate 16 255 ++ replicate 16 0
 
 any-byte : (k : ℕ) → k < 16 → get_or limits k 0 ≡ 255
-unfolding everyFrom
+unfolding every_from
 any-byte k h = eqb-true (get_or limits k 0) 255 (rw zero-add at (each-passes (λ i. eqb (get_or limits i 0) 255) 0 16 refl k h))
 
 no_byte : (k : ℕ) → k < 16 → get_or limits (16 + k) 0 ≡ 0
-unfolding everyFrom
+unfolding every_from
 no_byte k h = eqb-true (get_or limits (16 + k) 0) 0 (each-passes (λ i. eqb (get_or limits i 0) 0) 16 16 refl k h)
 
-module _ (s : List ℕ) (n : ℕ) (long : length s ≡ mostContent) (bytes : (i : ℕ) → get_or s i 0 < 256) (most : 48 < n) (short : n < mostContent) where
+module _ (s : List ℕ) (n : ℕ) (long : length s ≡ most_content) (bytes : (i : ℕ) → get_or s i 0 < 256) (most : 48 < n) (short : n < most_content) where
   abbrev from : ℕ
-  from = mostContent - n
+  from = most_content - n
 
   -- as the code takes them
   abbrev chosen : List ℕ
@@ -129,14 +129,14 @@ module _ (s : List ℕ) (n : ℕ) (long : length s ≡ mostContent) (bytes : (i 
   limited i = leb (get_or last i 0) (get_or chosen i 0)
 
   pub padded-by-limits : (r : Bool)
-      → r ≡ everyFrom (λ i. leb (get_or (take (length s - 48) (drop 48 s)) i 0) (get_or (take (mostContent - n + 16 - (mostContent - n)) (drop (mostContent - n) limits)) i 0)) 0 16
-      → r ≡ allZero (drop n s)
+      → r ≡ every_from (λ i. leb (get_or (take (length s - 48) (drop 48 s)) i 0) (get_or (take (most_content - n + 16 - (most_content - n)) (drop (most_content - n) limits)) i 0)) 0 16
+      → r ≡ all_zero (drop n s)
   padded-by-limits r e = e ∙ both_ways _ _ there back
     where
-      there : everyFrom limited 0 16 ≡ true → allZero (drop n s) ≡ true
+      there : every_from limited 0 16 ≡ true → all_zero (drop n s) ≡ true
       there all = all-within 0 (drop n s) (λ i.
           rw (get_or-drop n s i 0)
-          (elim (dec_lt (n + i) mostContent) [
+          (elim (dec_lt (n + i) most_content) [
             | yes h ↦
                 let k = n + i - 48 in
                 let at : 48 + k ≡ n + i = omega arith in
@@ -148,8 +148,8 @@ module _ (s : List ℕ) (n : ℕ) (long : length s ≡ mostContent) (bytes : (i 
             | no h ↦ omega (arith, get_or-eq_default s 0 {n = n + i} (omega (arith, long)))
           ]))
 
-      back : allZero (drop n s) ≡ true → everyFrom limited 0 16 ≡ true
-      back zeros = all_pass limited 0 16 (λ i i<.
+      back : all_zero (drop n s) ≡ true → every_from limited 0 16 ≡ true
+      back zeros = all-pass limited 0 16 (λ i i<.
           rw (zero-add i, last-at i i<)
           (elim (dec_lt (48 + i) n) [
             | yes h ↦

@@ -7,12 +7,12 @@ use native.Mathlib.Nat.{add-zero, zero-add, sub-zero}
 use native.Mathlib.Omega.{arith}
 use lib.ListN.{length, get_or}
 use lib.Dec.{leb, ltb, eqb}
-use Rattle.record.specs.Size.{mostHeld}
-use Rattle.record.specs.Count.{numbersAfter, those}
-use Rattle.record.specs.Held.{place_of, holds, heldNumbers}
+use Rattle.record.specs.Size.{most_held}
+use Rattle.record.specs.Count.{numbers_after, those}
+use Rattle.record.specs.Held.{place_of, holds, held_numbers}
 use Rattle.record.specs.Panel.{undelivered}
 use Rattle.record.specs.declared.log.Log.{Log}
-use Rattle.record.proofs.PlaceLaws.{beforeIn, before-place, past-mark, held-in-place}
+use Rattle.record.proofs.PlaceLaws.{before_in, before-place, past-mark, held-in-place}
 
 -- of n numbers from `first` on, so many pass
 unfoldable pub tally : (ℕ → Bool) → ℕ → ℕ → ℕ
@@ -89,14 +89,14 @@ tally-split test first (suc m) n =
 -- ---- by place: the numbers from safe mark + 1 on have the places from their first one's to the last, then from 0 on
 
 pub tally-by-place : (safe : ℕ) (asked question : ℕ → Bool)
-    → ((j : ℕ) → j < mostHeld → asked (place_of (suc safe + j)) ≡ question (suc safe + j))
-    → tally asked 0 mostHeld ≡ tally question (suc safe) mostHeld
+    → ((j : ℕ) → j < most_held → asked (place_of (suc safe + j)) ≡ question (suc safe + j))
+    → tally asked 0 most_held ≡ tally question (suc safe) most_held
 tally-by-place safe asked question same =
     let p = place_of (suc safe) in
-    let k = mostHeld - p in
-    let low : p < mostHeld = omega arith in
-    let all : p + k ≡ mostHeld = omega arith in
-    let turned : k + p ≡ mostHeld = omega arith in
+    let k = most_held - p in
+    let low : p < most_held = omega arith in
+    let all : p + k ≡ most_held = omega arith in
+    let turned : k + p ≡ most_held = omega arith in
     let places : tally asked 0 (p + k) ≡ tally asked 0 p + tally asked p k = rw zero-add at (tally-split asked 0 p k) in
     let numbers : tally question (suc safe) (k + p) ≡ tally question (suc safe) k + tally question (suc safe + k) p = tally-split question (suc safe) k p in
     let upper : tally asked p k ≡ tally question (suc safe) k =
@@ -110,22 +110,22 @@ tally-by-place safe asked question same =
 
 -- ---- what is held and not delivered
 
-tally-those : (test other : ℕ → Bool) (last n : ℕ) → length (those other (those test (numbersAfter last n))) ≡ tally (λ x. test x && other x) (suc last) n
-unfolding those numbersAfter tally
+tally-those : (test other : ℕ → Bool) (last n : ℕ) → length (those other (those test (numbers_after last n))) ≡ tally (λ x. test x && other x) (suc last) n
+unfolding those numbers_after tally
 tally-those test other last zero = refl
 tally-those test other last (suc n) = go (test (suc last)) (other (suc last)) refl refl (tally-those test other (suc last) n)
   where
     go : (a b : Bool) → test (suc last) ≡ a → other (suc last) ≡ b
-        → length (those other (those test (numbersAfter (suc last) n))) ≡ tally (λ x. test x && other x) (suc (suc last)) n
-        → length (those other (cond (test (suc last)) (suc last ∷ those test (numbersAfter (suc last) n)) (those test (numbersAfter (suc last) n))))
+        → length (those other (those test (numbers_after (suc last) n))) ≡ tally (λ x. test x && other x) (suc (suc last)) n
+        → length (those other (cond (test (suc last)) (suc last ∷ those test (numbers_after (suc last) n)) (those test (numbers_after (suc last) n))))
         ≡ cond (test (suc last) && other (suc last)) 1 0 + tally (λ x. test x && other x) (suc (suc last)) n
     go true true e f rest = rw (e, f) (omega (arith, rest))
     go true false e f rest = rw (e, f) (omega (arith, rest))
     go false b e f rest = rw e (omega (arith, rest))
 
 -- the question of a place, as the code asks
-abbrev pub placeUndelivered : List ℕ → ℕ → ℕ → ℕ → Bool
-placeUndelivered senders past safe i = leb past (beforeIn safe i) && not (eqb (get_or senders i 0) 0)
+abbrev pub place_undelivered : List ℕ → ℕ → ℕ → ℕ → Bool
+place_undelivered senders past safe i = leb past (before_in safe i) && not (eqb (get_or senders i 0) 0)
 
 module _ (l : Log) where
   abbrev past : ℕ
@@ -134,25 +134,25 @@ module _ (l : Log) where
   abbrev number : ℕ → ℕ
   number j = suc l.safe.0 + j
 
-  same : (j : ℕ) → j < mostHeld → placeUndelivered l.held.senders past l.safe.0 (place_of (number j)) ≡ (holds l (number j) && ltb l.delivered.0 (number j))
+  same : (j : ℕ) → j < most_held → place_undelivered l.held.senders past l.safe.0 (place_of (number j)) ≡ (holds l (number j) && ltb l.delivered.0 (number j))
   same j h = rw (before-place l.safe.0 j h, past-mark l.safe.0 l.delivered.0 j, held-in-place l j h) (and_comm (ltb l.delivered.0 (number j)) (not (eqb (get_or l.held.senders (place_of (number j)) 0) 0)))
 
   pub undelivered-by-place : (count : ℕ)
-      → count ≡ tally (placeUndelivered l.held.senders (l.delivered.0 - l.safe.0) l.safe.0) 0 mostHeld
+      → count ≡ tally (place_undelivered l.held.senders (l.delivered.0 - l.safe.0) l.safe.0) 0 most_held
       → count ≡ undelivered l
-  unfolding undelivered heldNumbers
+  unfolding undelivered held_numbers
   undelivered-by-place count e =
       e
       ∙ tally-by-place l.safe.0 _ (λ n. holds l n && ltb l.delivered.0 n) same
-      ∙ sym (tally-those (holds l) (ltb l.delivered.0) l.safe.0 mostHeld)
+      ∙ sym (tally-those (holds l) (ltb l.delivered.0) l.safe.0 most_held)
 
   -- where nothing is held
   pub undelivered-none : ((n : ℕ) → holds l n ≡ false) → undelivered l ≡ 0
-  unfolding undelivered heldNumbers
+  unfolding undelivered held_numbers
   undelivered-none none =
-      tally-those (holds l) (ltb l.delivered.0) l.safe.0 mostHeld
-      ∙ tally-none (λ n. holds l n && ltb l.delivered.0 n) (suc l.safe.0) mostHeld (λ n. rw (none n))
+      tally-those (holds l) (ltb l.delivered.0) l.safe.0 most_held
+      ∙ tally-none (λ n. holds l n && ltb l.delivered.0 n) (suc l.safe.0) most_held (λ n. rw (none n))
 
-  pub undelivered-most : undelivered l ≤ mostHeld
-  unfolding undelivered heldNumbers
-  undelivered-most = omega (arith, tally-those (holds l) (ltb l.delivered.0) l.safe.0 mostHeld, tally-most (λ n. holds l n && ltb l.delivered.0 n) (suc l.safe.0) mostHeld)
+  pub undelivered-most : undelivered l ≤ most_held
+  unfolding undelivered held_numbers
+  undelivered-most = omega (arith, tally-those (holds l) (ltb l.delivered.0) l.safe.0 most_held, tally-most (λ n. holds l n && ltb l.delivered.0 n) (suc l.safe.0) most_held)

@@ -2,14 +2,14 @@
 use Rattle.std.specs.Prelude.{ℕ, zero, suc, Bool, true, ◌&&◌, cond, List, [], ◌∷◌}
 
 -- the test holds of n numbers, from `first` on
-unfoldable pub everyFrom : (ℕ → Bool) → ℕ → ℕ → Bool
-everyFrom test first zero = true
-everyFrom test first (suc n) = test first && everyFrom test (suc first) n
+unfoldable pub every_from : (ℕ → Bool) → ℕ → ℕ → Bool
+every_from test first zero = true
+every_from test first (suc n) = test first && every_from test (suc first) n
 
 -- the n numbers after `last`
-unfoldable pub numbersAfter : ℕ → ℕ → List ℕ
-numbersAfter last zero = []
-numbersAfter last (suc n) = suc last ∷ numbersAfter (suc last) n
+unfoldable pub numbers_after : ℕ → ℕ → List ℕ
+numbers_after last zero = []
+numbers_after last (suc n) = suc last ∷ numbers_after (suc last) n
 
 -- those that pass, in their order
 unfoldable pub those : (ℕ → Bool) → List ℕ → List ℕ

@@ -1,40 +1,40 @@
 -- A fresh record: all marks and counts 0, nothing held or waiting, and no leave to resend. [document 01, The station record]
 use Rattle.std.specs.Prelude.{ℕ, ◌-◌, List, ◌++◌, length, replicate}
-use Rattle.frames.specs.Layout.{longestToken}
-use Rattle.record.specs.Size.{mostMembers, mostHeld, mostPosts, heldContents, postContents}
+use Rattle.frames.specs.Layout.{longest_token}
+use Rattle.record.specs.Size.{most_members, most_held, most_posts, held_contents, post_contents}
 use Rattle.record.specs.declared.log.Held.{Held}
 use Rattle.record.specs.declared.log.Log.{Log}
 use Rattle.record.specs.declared.turn.Turn.{Turn}
 use Rattle.record.specs.declared.posts.Posts.{Posts}
 use Rattle.record.specs.declared.Record.{Record}
 
-unfoldable pub freshHeld : Held
-freshHeld =
+unfoldable pub fresh_held : Held
+fresh_held =
     record {
-      senders = replicate mostHeld 0;
-      services = replicate mostHeld 0;
-      lengths = replicate mostHeld 0;
-      contents = replicate heldContents 0;
+      senders = replicate most_held 0;
+      services = replicate most_held 0;
+      lengths = replicate most_held 0;
+      contents = replicate held_contents 0;
     }
 
 -- the list of members, then zeros
-unfoldable pub membersPlaced : List ℕ → List ℕ
-membersPlaced ids = ids ++ replicate (mostMembers - length ids) 0
+unfoldable pub members_placed : List ℕ → List ℕ
+members_placed ids = ids ++ replicate (most_members - length ids) 0
 
-unfoldable pub freshLog : List ℕ → ℕ → Log
-freshLog ids ring =
+unfoldable pub fresh_log : List ℕ → ℕ → Log
+fresh_log ids ring =
     record {
       ring = record { 0 = ring };
       count = length ids;
-      members = membersPlaced ids;
+      members = members_placed ids;
       level = record { 0 = 0 };
       safe = record { 0 = 0 };
       delivered = record { 0 = 0 };
-      held = freshHeld;
+      held = fresh_held;
     }
 
-unfoldable pub freshTurn : Turn
-freshTurn =
+unfoldable pub fresh_turn : Turn
+fresh_turn =
     record {
       aru = record { 0 = 0 };
       earlier = record { 0 = 0 };
@@ -43,17 +43,17 @@ freshTurn =
       stall = 0;
       waited = 0;
       size = 0;
-      token = replicate longestToken 0;
+      token = replicate longest_token 0;
     }
 
-unfoldable pub freshPosts : Posts
-freshPosts =
+unfoldable pub fresh_posts : Posts
+fresh_posts =
     record {
       count = 0;
-      services = replicate mostPosts 0;
-      lengths = replicate mostPosts 0;
-      contents = replicate postContents 0;
+      services = replicate most_posts 0;
+      lengths = replicate most_posts 0;
+      contents = replicate post_contents 0;
     }
 
 unfoldable pub fresh : List ℕ → ℕ → ℕ → Record
-fresh ids own ring = record { own = own; panel = 0; log = freshLog ids ring; turn = freshTurn; posts = freshPosts }
+fresh ids own ring = record { own = own; panel = 0; log = fresh_log ids ring; turn = fresh_turn; posts = fresh_posts }

@@ -1,97 +1,97 @@
 -- Where each field of the record stands in its bytes, counted from the first byte of the part that it belongs to: behind the one
 -- before it, by that one's size. And how long each part is. docs/RECORD.md has the same as one table from the record's first byte. [document 01, The station and its neighbours]
 use Rattle.std.specs.Prelude.{ℕ, ◌+◌, ◌*◌}
-use Rattle.frames.specs.Layout.{longestToken}
-use Rattle.record.specs.Size.{mostMembers, mostHeld, mostPosts, heldContents, postContents}
+use Rattle.frames.specs.Layout.{longest_token}
+use Rattle.record.specs.Size.{most_members, most_held, most_posts, held_contents, post_contents}
 
 -- ---- the held messages
 
-abbrev pub sendersAt : ℕ
-sendersAt = 0
+abbrev pub senders_at : ℕ
+senders_at = 0
 
-abbrev pub heldServicesAt : ℕ
-heldServicesAt = sendersAt + 2 * mostHeld
+abbrev pub held_services_at : ℕ
+held_services_at = senders_at + 2 * most_held
 
-abbrev pub heldLengthsAt : ℕ
-heldLengthsAt = heldServicesAt + 2 * mostHeld
+abbrev pub held_lengths_at : ℕ
+held_lengths_at = held_services_at + 2 * most_held
 
-abbrev pub heldContentsAt : ℕ
-heldContentsAt = heldLengthsAt + mostHeld
+abbrev pub held_contents_at : ℕ
+held_contents_at = held_lengths_at + most_held
 
-abbrev pub heldSize : ℕ
-heldSize = heldContentsAt + heldContents
+abbrev pub held_size : ℕ
+held_size = held_contents_at + held_contents
 
 -- ---- the log
 
-abbrev pub logRingAt : ℕ
-logRingAt = 0
+abbrev pub log_ring_at : ℕ
+log_ring_at = 0
 
-abbrev pub memberCountAt : ℕ
-memberCountAt = logRingAt + 4
+abbrev pub member_count_at : ℕ
+member_count_at = log_ring_at + 4
 
-abbrev pub membersAt : ℕ
-membersAt = memberCountAt + 1
+abbrev pub members_at : ℕ
+members_at = member_count_at + 1
 
-abbrev pub levelAt : ℕ
-levelAt = membersAt + 2 * mostMembers
+abbrev pub level_at : ℕ
+level_at = members_at + 2 * most_members
 
-abbrev pub safeAt : ℕ
-safeAt = levelAt + 4
+abbrev pub safe_at : ℕ
+safe_at = level_at + 4
 
-abbrev pub deliveredAt : ℕ
-deliveredAt = safeAt + 4
+abbrev pub delivered_at : ℕ
+delivered_at = safe_at + 4
 
-abbrev pub heldMessagesAt : ℕ
-heldMessagesAt = deliveredAt + 4
+abbrev pub held_messages_at : ℕ
+held_messages_at = delivered_at + 4
 
-abbrev pub logSize : ℕ
-logSize = heldMessagesAt + heldSize
+abbrev pub log_size : ℕ
+log_size = held_messages_at + held_size
 
 -- ---- the turn
 
-abbrev pub turnAruAt : ℕ
-turnAruAt = 0
+abbrev pub turn_aru_at : ℕ
+turn_aru_at = 0
 
-abbrev pub earlierAt : ℕ
-earlierAt = turnAruAt + 4
+abbrev pub earlier_at : ℕ
+earlier_at = turn_aru_at + 4
 
-abbrev pub turnNumberAt : ℕ
-turnNumberAt = earlierAt + 4
+abbrev pub turn_number_at : ℕ
+turn_number_at = earlier_at + 4
 
-abbrev pub broadcastAt : ℕ
-broadcastAt = turnNumberAt + 4
+abbrev pub broadcast_at : ℕ
+broadcast_at = turn_number_at + 4
 
-abbrev pub stallAt : ℕ
-stallAt = broadcastAt + 1
+abbrev pub stall_at : ℕ
+stall_at = broadcast_at + 1
 
-abbrev pub waitedAt : ℕ
-waitedAt = stallAt + 1
+abbrev pub waited_at : ℕ
+waited_at = stall_at + 1
 
-abbrev pub tokenSizeAt : ℕ
-tokenSizeAt = waitedAt + 1
+abbrev pub token_size_at : ℕ
+token_size_at = waited_at + 1
 
-abbrev pub tokenAt : ℕ
-tokenAt = tokenSizeAt + 1
+abbrev pub token_at : ℕ
+token_at = token_size_at + 1
 
-abbrev pub turnSize : ℕ
-turnSize = tokenAt + longestToken
+abbrev pub turn_size : ℕ
+turn_size = token_at + longest_token
 
 -- ---- the waiting posts
 
-abbrev pub postCountAt : ℕ
-postCountAt = 0
+abbrev pub post_count_at : ℕ
+post_count_at = 0
 
-abbrev pub postServicesAt : ℕ
-postServicesAt = postCountAt + 1
+abbrev pub post_services_at : ℕ
+post_services_at = post_count_at + 1
 
-abbrev pub postLengthsAt : ℕ
-postLengthsAt = postServicesAt + 2 * mostPosts
+abbrev pub post_lengths_at : ℕ
+post_lengths_at = post_services_at + 2 * most_posts
 
-abbrev pub postContentsAt : ℕ
-postContentsAt = postLengthsAt + mostPosts
+abbrev pub post_contents_at : ℕ
+post_contents_at = post_lengths_at + most_posts
 
-abbrev pub postsSize : ℕ
-postsSize = postContentsAt + postContents
+abbrev pub posts_size : ℕ
+posts_size = post_contents_at + post_contents
 
 -- ---- the record: own id, the panel's count, log, turn, posts
 
@@ -99,17 +99,17 @@ abbrev pub field_own : ℕ
 field_own = 0
 
 -- what the panel reads; it never moves again
-abbrev pub panelAt : ℕ
-panelAt = field_own + 2
+abbrev pub panel_at : ℕ
+panel_at = field_own + 2
 
 abbrev pub log_at : ℕ
-log_at = panelAt + 1
+log_at = panel_at + 1
 
-abbrev pub turnAt : ℕ
-turnAt = log_at + logSize
+abbrev pub turn_at : ℕ
+turn_at = log_at + log_size
 
-abbrev pub postsAt : ℕ
-postsAt = turnAt + turnSize
+abbrev pub posts_at : ℕ
+posts_at = turn_at + turn_size
 
-abbrev pub recordSize : ℕ
-recordSize = postsAt + postsSize
+abbrev pub record_size : ℕ
+record_size = posts_at + posts_size

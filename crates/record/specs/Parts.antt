@@ -6,9 +6,9 @@ use Rattle.record.specs.declared.posts.Posts.{Posts}
 use Rattle.record.specs.declared.Record.{Record}
 
 -- the panel shows what this log holds and has not delivered
-abbrev pub withParts : Record → Log → Turn → Posts → Record
-withParts r log turn posts = record { own = r.own; panel = undelivered log; log = log; turn = turn; posts = posts }
+abbrev pub with_parts : Record → Log → Turn → Posts → Record
+with_parts r log turn posts = record { own = r.own; panel = undelivered log; log = log; turn = turn; posts = posts }
 
 -- with other posts alone
-abbrev pub withPosts : Record → Posts → Record
-withPosts r posts = record { own = r.own; panel = r.panel; log = r.log; turn = r.turn; posts = posts }
+abbrev pub with_posts : Record → Posts → Record
+with_posts r posts = record { own = r.own; panel = r.panel; log = r.log; turn = r.turn; posts = posts }

@@ -7,7 +7,7 @@ use Rattle.frames.specs.declared.token.Blocker.TheVariants.{Nobody, Member}
 use Rattle.frames.specs.declared.token.Token.{Token}
 use Rattle.frames.specs.declared.reader.Answer.{Answer}
 use Rattle.frames.specs.declared.reader.Answer.TheVariants.{Refused, IsMessage, IsToken}
-use Rattle.record.specs.Members.{isMember, representative}
+use Rattle.record.specs.Members.{is_member, representative}
 use Rattle.record.specs.declared.log.Log.{Log}
 use Rattle.record.specs.declared.Record.{Record}
 
@@ -20,25 +20,25 @@ abbrev pub ids : Log → List ℕ
 ids l = take l.count l.members
 
 -- 13. Is it this ring's number and representative?
-unfoldable pub thisRing : ℕ → List ℕ → Header → Bool
-thisRing ring members h = eqb h.ring.0 ring && eqb h.representative (representative members)
+unfoldable pub this_ring : ℕ → List ℕ → Header → Bool
+this_ring ring members h = eqb h.ring.0 ring && eqb h.representative (representative members)
 
 -- 14. Is every id in it a member's (nobody excepted)? Of a token: the addressee and the blocker
-abbrev pub blockerMember : List ℕ → Blocker → Bool
-blockerMember members Nobody = true
-blockerMember members (Member id) = isMember members id
+abbrev pub blocker_member : List ℕ → Blocker → Bool
+blocker_member members Nobody = true
+blocker_member members (Member id) = is_member members id
 
-unfoldable pub tokenMembers : List ℕ → Token → Bool
-tokenMembers members t = isMember members t.addressee && blockerMember members t.blocker
+unfoldable pub token_members : List ℕ → Token → Bool
+token_members members t = is_member members t.addressee && blocker_member members t.blocker
 
-abbrev pub isToken : Answer → Bool
-isToken (Refused why) = false
-isToken (IsMessage m) = false
-isToken IsToken = true
+abbrev pub is_token : Answer → Bool
+is_token (Refused why) = false
+is_token (IsMessage m) = false
+is_token IsToken = true
 
 -- of kind 2, and passes 10 to 14
-unfoldable pub tokenPasses : ℕ → List ℕ → List ℕ → Bool
-tokenPasses ring members frame =
-    isToken (read_of frame).answer
-    && thisRing ring members (read_of frame).token.header
-    && tokenMembers members (read_of frame).token
+unfoldable pub token_passes : ℕ → List ℕ → List ℕ → Bool
+token_passes ring members frame =
+    is_token (read_of frame).answer
+    && this_ring ring members (read_of frame).token.header
+    && token_members members (read_of frame).token

@@ -3,8 +3,8 @@ use Rattle.std.specs.Prelude.{ℕ, Bool, not, List, take, eqb}
 use Rattle.record.specs.declared.turn.Turn.{Turn}
 
 -- may the token be resent?
-abbrev pub mayResend : Turn → Bool
-mayResend t = not (eqb t.size 0)
+abbrev pub may_resend : Turn → Bool
+may_resend t = not (eqb t.size 0)
 
 -- the remembered token's frame
 abbrev pub remembered : Turn → List ℕ

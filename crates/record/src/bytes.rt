@@ -1,14 +1,14 @@
 // The record and its bytes: one layout and one length. A head is read and stored with the contents left where
 // they stand.
 ghost use Rattle.std.specs.Prelude.{◌≡◌, ◌++◌, ◌<◌, ◌≤◌, length, drop};
-ghost use Rattle.frames.specs.Layout.{mostContent};
-ghost use Rattle.record.specs.Size.{mostMembers, mostPosts};
+ghost use Rattle.frames.specs.Layout.{most_content};
+ghost use Rattle.record.specs.Size.{most_members, most_posts};
 ghost use Rattle.record.specs.Fresh.{fresh};
 ghost use Rattle.record.specs.Posts.{queued};
-ghost use Rattle.record.specs.Layout.{recordSize, log_at, postsAt};
-ghost use Rattle.record.specs.Bytes.{recordOf, recordBytes};
-ghost use Rattle.record.specs.Parts.{withPosts};
-ghost use Rattle.record.specs.inner.Head.{recordShowing, recordIn, recordHead, contentsIn, waitingIn};
+ghost use Rattle.record.specs.Layout.{record_size, log_at, posts_at};
+ghost use Rattle.record.specs.Bytes.{record_of, record_bytes};
+ghost use Rattle.record.specs.Parts.{with_posts};
+ghost use Rattle.record.specs.inner.Head.{record_showing, record_in, record_head, contents_in, waiting_in};
 
 use crate::head::Head;
 use crate::turn::Turn;
@@ -17,8 +17,8 @@ use frames::RingNumber;
 
 // The head of the record in the first RECORD_SIZE bytes. Ruled out: two marks swapped; a field one byte off.
 pub fn get_head(s: &[u8]) -> Head
-    requires { recordSize ≤ length s.now }
-    ensures { result ≡ recordHead (recordOf s.now) }
+    requires { record_size ≤ length s.now }
+    ensures { result ≡ record_head (record_of s.now) }
 {
     Head {
         own: words::get_u16(s, layout::OWN_AT),
@@ -30,10 +30,10 @@ pub fn get_head(s: &[u8]) -> Head
 
 // A head and the panel's count, to the first RECORD_SIZE bytes: the contents stay.
 fn put_showing(out: &mut [u8], panel: u8, h: Head)
-    requires { recordSize ≤ length out.old }
+    requires { record_size ≤ length out.old }
     ensures { out.new
-        ≡ recordBytes (recordShowing panel h (contentsIn out.old log_at) (waitingIn out.old postsAt))
-        ++ drop recordSize out.old }
+        ≡ record_bytes (record_showing panel h (contents_in out.old log_at) (waiting_in out.old posts_at))
+        ++ drop record_size out.old }
 {
     words::put_u16(out, layout::OWN_AT, h.own);
     words::put_u8(out, layout::PANEL_AT, panel);
@@ -44,16 +44,16 @@ fn put_showing(out: &mut [u8], panel: u8, h: Head)
 
 // The same with the count as it has to be. Ruled out: a content or a byte past them changed; the count left as it was.
 pub fn put_head(out: &mut [u8], h: Head)
-    requires { recordSize ≤ length out.old }
-    ensures { out.new ≡ recordBytes (recordIn h out.old) ++ drop recordSize out.old }
+    requires { record_size ≤ length out.old }
+    ensures { out.new ≡ record_bytes (record_in h out.old) ++ drop record_size out.old }
 {
     put_showing(out, panel::undelivered(h.log), h);
 }
 
 // The record in the first RECORD_SIZE bytes.
 pub fn decode(s: &[u8]) -> Record
-    requires { recordSize ≤ length s.now }
-    ensures { result ≡ recordOf s.now }
+    requires { record_size ≤ length s.now }
+    ensures { result ≡ record_of s.now }
 {
     let mut contents = [0u8; size::HELD_CONTENTS];
     words::get_bytes(s, layout::CONTENTS_AT, size::HELD_CONTENTS, &mut contents);
@@ -65,8 +65,8 @@ pub fn decode(s: &[u8]) -> Record
 
 // To the first RECORD_SIZE bytes. Ruled out: a byte past them changed; a field left out.
 pub fn encode(r: Record, out: &mut [u8])
-    requires { recordSize ≤ length out.old }
-    ensures { out.new ≡ recordBytes r ++ drop recordSize out.old }
+    requires { record_size ≤ length out.old }
+    ensures { out.new ≡ record_bytes r ++ drop record_size out.old }
 {
     let contents = r.log.held.contents;
     let waiting = r.posts.contents;
@@ -78,9 +78,9 @@ pub fn encode(r: Record, out: &mut [u8])
 // A fresh record, to the first RECORD_SIZE bytes. Ruled out: a content that stood there before; a byte past
 // them changed.
 pub fn put_fresh(out: &mut [u8], ids: &[u16], own: u16, ring: RingNumber)
-    requires { (recordSize ≤ length out.old) × (length ids.now ≤ mostMembers) }
+    requires { (record_size ≤ length out.old) × (length ids.now ≤ most_members) }
     ensures { out.new
-        ≡ recordBytes (fresh ids.now own ring.0) ++ drop recordSize out.old }
+        ≡ record_bytes (fresh ids.now own ring.0) ++ drop record_size out.old }
 {
     words::put_bytes(out, layout::CONTENTS_AT, &[0u8; size::HELD_CONTENTS]);
     words::put_bytes(out, layout::WAITING_AT, &[0u8; size::POST_CONTENTS]);
@@ -89,16 +89,16 @@ pub fn put_fresh(out: &mut [u8], ids: &[u16], own: u16, ring: RingNumber)
 
 // What a station keeps from one visit to the next, in the record's bytes.
 pub fn turn_in(s: &[u8]) -> Turn
-    requires { recordSize ≤ length s.now }
-    ensures { result ≡ (recordOf s.now).turn }
+    requires { record_size ≤ length s.now }
+    ensures { result ≡ (record_of s.now).turn }
 {
     turn_bytes::get_turn(&s[layout::TURN_AT..])
 }
 
 // How many posts wait, in the record's bytes.
 pub fn post_count(s: &[u8]) -> u8
-    requires { recordSize ≤ length s.now }
-    ensures { result ≡ (recordOf s.now).posts.count }
+    requires { record_size ≤ length s.now }
+    ensures { result ≡ (record_of s.now).posts.count }
 {
     words::get_u8(s, layout::POSTS_AT + layout::POST_COUNT_AT)
 }
@@ -106,11 +106,11 @@ pub fn post_count(s: &[u8]) -> u8
 // One post more, in the record's bytes: only those of the posts change. Ruled out: a mark changed; the
 // content of another post.
 pub fn put_post(s: &mut [u8], service: u16, content: &[u8])
-    requires { (length s.old ≡ recordSize)
-        × ((recordOf s.old).posts.count < mostPosts)
-        × (length content.now ≤ mostContent) }
+    requires { (length s.old ≡ record_size)
+        × ((record_of s.old).posts.count < most_posts)
+        × (length content.now ≤ most_content) }
     ensures { s.new
-        ≡ recordBytes (withPosts (recordOf s.old) (queued (recordOf s.old).posts service content.now)) }
+        ≡ record_bytes (with_posts (record_of s.old) (queued (record_of s.old).posts service content.now)) }
 {
     let before = posts_bytes::get_posts_head(&s[layout::POSTS_AT..]);
     let after = posts::queue_on(before, &mut s[layout::WAITING_AT..], service, content);

@@ -1,8 +1,8 @@
 // A fresh record.
 ghost use Rattle.std.specs.Prelude.{◌≡◌, ◌≤◌, length, replicate};
-ghost use Rattle.record.specs.Size.{mostMembers, heldContents, postContents};
-ghost use Rattle.record.specs.inner.Head.{logOn, postsOn, recordShowing};
-ghost use Rattle.record.specs.Fresh.{membersPlaced, freshLog, freshTurn, freshPosts, fresh};
+ghost use Rattle.record.specs.Size.{most_members, held_contents, post_contents};
+ghost use Rattle.record.specs.inner.Head.{log_on, posts_on, record_showing};
+ghost use Rattle.record.specs.Fresh.{members_placed, fresh_log, fresh_turn, fresh_posts, fresh};
 
 use crate::head::{Head, LogHead, PostsHead};
 use crate::size;
@@ -10,8 +10,8 @@ use crate::turn::Turn;
 use frames::{MessageNumber, RingNumber, TokenNumber};
 
 fn places_of(ids: &[u16]) -> [u16; size::MOST_MEMBERS]
-    requires { length ids.now ≤ mostMembers }
-    ensures { result ≡ membersPlaced ids.now }
+    requires { length ids.now ≤ most_members }
+    ensures { result ≡ members_placed ids.now }
 {
     let mut members = [0u16; size::MOST_MEMBERS];
     let mut i = 0;
@@ -23,8 +23,8 @@ fn places_of(ids: &[u16]) -> [u16; size::MOST_MEMBERS]
 }
 
 fn fresh_log(ids: &[u16], ring: RingNumber) -> LogHead
-    requires { length ids.now ≤ mostMembers }
-    ensures { logOn result (replicate heldContents 0) ≡ freshLog ids.now ring.0 }
+    requires { length ids.now ≤ most_members }
+    ensures { log_on result (replicate held_contents 0) ≡ fresh_log ids.now ring.0 }
 {
     LogHead {
         ring,
@@ -40,7 +40,7 @@ fn fresh_log(ids: &[u16], ring: RingNumber) -> LogHead
 }
 
 fn fresh_turn() -> Turn
-    ensures { result ≡ freshTurn }
+    ensures { result ≡ fresh_turn }
 {
     Turn {
         aru: MessageNumber(0),
@@ -55,7 +55,7 @@ fn fresh_turn() -> Turn
 }
 
 fn fresh_posts() -> PostsHead
-    ensures { postsOn result (replicate postContents 0) ≡ freshPosts }
+    ensures { posts_on result (replicate post_contents 0) ≡ fresh_posts }
 {
     PostsHead {
         count: 0,
@@ -67,8 +67,8 @@ fn fresh_posts() -> PostsHead
 // All marks and counts 0, nothing held or waiting, and no leave to resend; the contents are zero. Ruled out:
 // the members in another order; a byte left over past them.
 pub fn fresh_head(ids: &[u16], own: u16, ring: RingNumber) -> Head
-    requires { length ids.now ≤ mostMembers }
-    ensures { recordShowing 0 result (replicate heldContents 0) (replicate postContents 0) ≡ fresh ids.now own ring.0 }
+    requires { length ids.now ≤ most_members }
+    ensures { record_showing 0 result (replicate held_contents 0) (replicate post_contents 0) ≡ fresh ids.now own ring.0 }
 {
     Head {
         own,

@@ -2,7 +2,7 @@
 // so a head is small and goes by value where the whole would be copied. A count stands last in it, behind the
 // arrays: there is no hole between fields, and a copy moves them by whole words.
 ghost use Rattle.std.specs.Prelude.{◌≡◌};
-ghost use Rattle.record.specs.inner.Head.{recordShowing, recordHead, headWith, headWithParts};
+ghost use Rattle.record.specs.inner.Head.{record_showing, record_head, head_with, head_with_parts};
 
 use crate::log::{Held, Log};
 use crate::posts::Posts;
@@ -41,7 +41,7 @@ pub struct Head {
 
 // A head with other parts: whatever else it has stays. Ruled out: another own id.
 pub fn with_parts(h: Head, log: LogHead, turn: Turn, posts: PostsHead) -> Head
-    ensures { result ≡ headWithParts h log turn posts }
+    ensures { result ≡ head_with_parts h log turn posts }
 {
     Head {
         log,
@@ -61,7 +61,7 @@ pub fn head_with(
     services: [u16; size::MOST_HELD],
     lengths: [u8; size::MOST_HELD],
 ) -> LogHead
-    ensures { result ≡ headWith l level safe delivered senders services lengths }
+    ensures { result ≡ head_with l level safe delivered senders services lengths }
 {
     let ring = l.ring;
     let members = l.members;
@@ -85,7 +85,7 @@ pub fn marked(
     safe: MessageNumber,
     delivered: MessageNumber,
 ) -> LogHead
-    ensures { result ≡ headWith l level safe delivered l.senders l.services l.lengths }
+    ensures { result ≡ head_with l level safe delivered l.senders l.services l.lengths }
 {
     let senders = l.senders;
     let services = l.services;
@@ -95,7 +95,7 @@ pub fn marked(
 
 // A record without its contents.
 pub fn head_of(r: Record) -> Head
-    ensures { result ≡ recordHead r }
+    ensures { result ≡ record_head r }
 {
     let ring = r.log.ring;
     let members = r.log.members;
@@ -137,7 +137,7 @@ pub fn record_showing(
     contents: [u8; size::HELD_CONTENTS],
     waiting: [u8; size::POST_CONTENTS],
 ) -> Record
-    ensures { result ≡ recordShowing panel h contents waiting }
+    ensures { result ≡ record_showing panel h contents waiting }
 {
     let ring = h.log.ring;
     let members = h.log.members;

@@ -2,11 +2,11 @@
 // A message's place follows from its number alone.
 ghost use Rattle.std.specs.Prelude.{◌≡◌, not, ◌&&◌, ◌+◌, ◌*◌, ◌-◌, ◌%◌, ◌≤◌, ◌<◌, length, get_or, ltb, leb, eqb};
 ghost use Rattle.std.proofs.lemmas.List.Edits.{sets};
-ghost use Rattle.frames.specs.Number.{mostNumber};
-ghost use Rattle.frames.specs.Layout.{mostContent};
-ghost use Rattle.record.specs.Size.{mostHeld, heldContents};
-ghost use Rattle.record.specs.inner.Head.{heldFrom, logOn};
-ghost use Rattle.record.specs.Held.{place_of, heldWith, stored, clearedFrom, let_go};
+ghost use Rattle.frames.specs.Number.{most_number};
+ghost use Rattle.frames.specs.Layout.{most_content};
+ghost use Rattle.record.specs.Size.{most_held, held_contents};
+ghost use Rattle.record.specs.inner.Head.{held_from, log_on};
+ghost use Rattle.record.specs.Held.{place_of, held_with, stored, cleared_from, let_go};
 
 use crate::head::LogHead;
 use crate::{head, size};
@@ -15,9 +15,9 @@ use frames::MessageNumber;
 // Is this number held, by the safe mark and the senders of all places? They are lent, so that a loop copies
 // nothing. Ruled out: yes to a number at the safe mark; no to safe mark + 32 where it is held.
 pub fn is_held(safe: MessageNumber, senders: &[u16; size::MOST_HELD], n: MessageNumber) -> bool
-    requires { safe.0 ≤ mostNumber }
+    requires { safe.0 ≤ most_number }
     ensures { result ≡ (ltb safe.0 n.0
-        && leb n.0 (safe.0 + mostHeld)
+        && leb n.0 (safe.0 + most_held)
         && not (eqb (get_or senders.now (place_of n.0) 0) 0)) }
 {
     let place = n.0 as usize % size::MOST_HELD;
@@ -27,8 +27,8 @@ pub fn is_held(safe: MessageNumber, senders: &[u16; size::MOST_HELD], n: Message
 // How many numbers above the safe mark come before the one that a place is for. Ruled out: the safe mark's own
 // place first; a place counted from another mark.
 pub fn numbers_before(safe: MessageNumber, place: usize) -> u32
-    requires { place < mostHeld }
-    ensures { result ≡ (place + mostHeld - 1 - safe.0 % mostHeld) % mostHeld }
+    requires { place < most_held }
+    ensures { result ≡ (place + most_held - 1 - safe.0 % most_held) % most_held }
 {
     let most = size::MOST_HELD as u32;
     (place as u32 + most - 1 - safe.0 % most) % most
@@ -36,8 +36,8 @@ pub fn numbers_before(safe: MessageNumber, place: usize) -> u32
 
 // A content at its place among those held.
 fn put_content(contents: &mut [u8], place: usize, content: &[u8])
-    requires { (place ≤ 31) × (length content.now ≤ mostContent) × (length contents.old ≡ heldContents) }
-    ensures { contents.new ≡ sets contents.old (mostContent * place) content.now }
+    requires { (place ≤ 31) × (length content.now ≤ most_content) × (length contents.old ≡ held_contents) }
+    ensures { contents.new ≡ sets contents.old (most_content * place) content.now }
 {
     words::put_bytes(contents, frames::MOST_CONTENT * place, content);
 }
@@ -54,10 +54,10 @@ pub fn place_message(
     service: u16,
     content: &[u8],
 )
-    requires { (length content.now ≤ mostContent) × (length contents.old ≡ heldContents) }
-    ensures { heldFrom senders.new services.new lengths.new contents.new
-        ≡ heldWith
-        (heldFrom senders.old services.old lengths.old contents.old)
+    requires { (length content.now ≤ most_content) × (length contents.old ≡ held_contents) }
+    ensures { held_from senders.new services.new lengths.new contents.new
+        ≡ held_with
+        (held_from senders.old services.old lengths.old contents.old)
         (place_of n.0)
         (record { sender = sender; service = service; content = content.now }) }
 {
@@ -77,9 +77,9 @@ pub fn store(
     service: u16,
     content: &[u8],
 ) -> LogHead
-    requires { (length content.now ≤ mostContent) × (length contents.old ≡ heldContents) }
-    ensures { logOn result contents.new
-        ≡ stored (logOn l contents.old) n.0
+    requires { (length content.now ≤ most_content) × (length contents.old ≡ held_contents) }
+    ensures { log_on result contents.new
+        ≡ stored (log_on l contents.old) n.0
         (record { sender = sender; service = service; content = content.now }) }
 {
     let mut senders = l.senders;
@@ -107,10 +107,10 @@ fn clear_from(
     first: u32,
     n: u32,
 )
-    requires { (first + n ≤ 4000000000) × (length contents.old ≡ heldContents) }
-    ensures { heldFrom senders.new services.new lengths.new contents.new
-        ≡ clearedFrom
-        (heldFrom senders.old services.old lengths.old contents.old)
+    requires { (first + n ≤ 4000000000) × (length contents.old ≡ held_contents) }
+    ensures { held_from senders.new services.new lengths.new contents.new
+        ≡ cleared_from
+        (held_from senders.old services.old lengths.old contents.old)
         first n }
 {
     let mut i = 0;
@@ -126,8 +126,8 @@ fn clear_from(
 
 // Everything up to a new safe mark is let go. Ruled out: the mark's own message kept; one above it let go.
 pub fn let_go(l: LogHead, contents: &mut [u8], safe: MessageNumber) -> LogHead
-    requires { (l.safe.0 ≤ safe.0) × (safe.0 ≤ mostNumber) × (length contents.old ≡ heldContents) }
-    ensures { logOn result contents.new ≡ let_go (logOn l contents.old) safe.0 }
+    requires { (l.safe.0 ≤ safe.0) × (safe.0 ≤ most_number) × (length contents.old ≡ held_contents) }
+    ensures { log_on result contents.new ≡ let_go (log_on l contents.old) safe.0 }
 {
     let mut senders = l.senders;
     let mut services = l.services;

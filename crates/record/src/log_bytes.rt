@@ -1,18 +1,18 @@
 // The head of a log and its bytes. The contents that stand after it are left alone.
 ghost use Rattle.std.specs.Prelude.{◌≡◌, ◌++◌, ◌+◌, ◌≤◌, length};
 ghost use Rattle.std.proofs.lemmas.List.Edits.{sets};
-ghost use Rattle.words.specs.Run.{wordsBytes};
-ghost use Rattle.record.specs.Layout.{logSize, heldContentsAt};
-ghost use Rattle.record.specs.Bytes.{logOf, logBytes};
-ghost use Rattle.record.specs.inner.Head.{logOn, contentsIn};
+ghost use Rattle.words.specs.Run.{words_bytes};
+ghost use Rattle.record.specs.Layout.{log_size, held_contents_at};
+ghost use Rattle.record.specs.Bytes.{log_of, log_bytes};
+ghost use Rattle.record.specs.inner.Head.{log_on, contents_in};
 
 use crate::head::LogHead;
 use crate::{layout, size};
 use frames::{MessageNumber, RingNumber};
 
 pub fn get_log_head(s: &[u8]) -> LogHead
-    requires { logSize ≤ length s.now }
-    ensures { logOn result (contentsIn s.now 0) ≡ logOf s.now }
+    requires { log_size ≤ length s.now }
+    ensures { log_on result (contents_in s.now 0) ≡ log_of s.now }
 {
     let mut members = [0u16; size::MOST_MEMBERS];
     words::get_u16s(s, layout::MEMBERS_AT, size::MOST_MEMBERS, &mut members);
@@ -52,9 +52,9 @@ pub fn get_log_head(s: &[u8]) -> LogHead
 
 // The held messages' senders, services and lengths.
 fn put_places(out: &mut [u8], at: usize, l: LogHead)
-    requires { at + heldContentsAt ≤ length out.old }
+    requires { at + held_contents_at ≤ length out.old }
     ensures { out.new
-        ≡ sets out.old at (wordsBytes 2 l.senders ++ wordsBytes 2 l.services ++ l.lengths) }
+        ≡ sets out.old at (words_bytes 2 l.senders ++ words_bytes 2 l.services ++ l.lengths) }
 {
     let senders = l.senders;
     let services = l.services;
@@ -65,8 +65,8 @@ fn put_places(out: &mut [u8], at: usize, l: LogHead)
 }
 
 pub fn put_log_head(out: &mut [u8], at: usize, l: LogHead)
-    requires { at + logSize ≤ length out.old }
-    ensures { out.new ≡ sets out.old at (logBytes (logOn l (contentsIn out.old at))) }
+    requires { at + log_size ≤ length out.old }
+    ensures { out.new ≡ sets out.old at (log_bytes (log_on l (contents_in out.old at))) }
 {
     let members = l.members;
     words::put_u32(out, at + layout::LOG_RING_AT, l.ring.0);

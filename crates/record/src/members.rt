@@ -1,27 +1,27 @@
 // The founding questions, of a list of ids, the own id and the ring number.
 ghost use Rattle.std.specs.Prelude.{◌≡◌};
-ghost use Rattle.record.specs.Members.{isMember, membersCounted, idsFollow, foundable};
+ghost use Rattle.record.specs.Members.{is_member, members_counted, ids_follow, foundable};
 
 use crate::size;
 use frames::RingNumber;
 
 // Ruled out: the last of them passed over; 0 found in a list without it.
 pub fn is_member(ids: &[u16], id: u16) -> bool
-    ensures { result ≡ isMember ids.now id }
+    ensures { result ≡ is_member ids.now id }
 {
     !words::lacks_u16(ids, id)
 }
 
 // Question 3. Ruled out: one alone taken; eight refused.
 pub fn members_counted(ids: &[u16]) -> bool
-    ensures { result ≡ membersCounted ids.now }
+    ensures { result ≡ members_counted ids.now }
 {
     (size::LEAST_MEMBERS <= ids.len()) & (ids.len() <= size::MOST_MEMBERS)
 }
 
 // Question 4. Ruled out: an id twice; the lowest in a later place.
 pub fn ids_follow(ids: &[u16]) -> bool
-    ensures { result ≡ idsFollow ids.now }
+    ensures { result ≡ ids_follow ids.now }
 {
     if ids.len() == 0 {
         return true;

@@ -1,9 +1,9 @@
 // The posts that wait for the token: the first `count` places, oldest first; the others are 0.
 // Contents stand 64 bytes apart, zero past their lengths.
 ghost use Rattle.std.specs.Prelude.{◌≡◌, ◌++◌, ◌*◌, ◌-◌, ◌≤◌, ◌<◌, length, take, drop, replicate};
-ghost use Rattle.frames.specs.Layout.{mostContent};
-ghost use Rattle.record.specs.Size.{mostPosts, postContents};
-ghost use Rattle.record.specs.inner.Head.{postsOn};
+ghost use Rattle.frames.specs.Layout.{most_content};
+ghost use Rattle.record.specs.Size.{most_posts, post_contents};
+ghost use Rattle.record.specs.inner.Head.{posts_on};
 ghost use Rattle.record.specs.Posts.{queued, taken};
 
 use crate::head::PostsHead;
@@ -19,8 +19,8 @@ pub struct Posts {
 
 // One post more, behind the others: its content goes where the contents are lent. Ruled out: an older one written over; the count left as it was.
 pub fn queue_on(p: PostsHead, waiting: &mut [u8], service: u16, content: &[u8]) -> PostsHead
-    requires { (p.count < mostPosts) × (length content.now ≤ mostContent) × (length waiting.old ≡ postContents) }
-    ensures { postsOn result waiting.new ≡ queued (postsOn p waiting.old) service content.now }
+    requires { (p.count < most_posts) × (length content.now ≤ most_content) × (length waiting.old ≡ post_contents) }
+    ensures { posts_on result waiting.new ≡ queued (posts_on p waiting.old) service content.now }
 {
     let mut services = p.services;
     let mut lengths = p.lengths;
@@ -37,10 +37,10 @@ pub fn queue_on(p: PostsHead, waiting: &mut [u8], service: u16, content: &[u8]) 
 
 // The contents from place `first` on move to the front, one by one.
 fn move_up(waiting: &mut [u8], first: usize)
-    requires { (first ≤ mostPosts) × (length waiting.old ≡ postContents) }
+    requires { (first ≤ most_posts) × (length waiting.old ≡ post_contents) }
     ensures { waiting.new
-        ≡ take (mostContent * (mostPosts - first)) (drop (mostContent * first) waiting.old)
-        ++ drop (mostContent * (mostPosts - first)) waiting.old }
+        ≡ take (most_content * (most_posts - first)) (drop (most_content * first) waiting.old)
+        ++ drop (most_content * (most_posts - first)) waiting.old }
 {
     let rest = size::MOST_POSTS - first;
     let mut i = 0;
@@ -55,9 +55,9 @@ fn move_up(waiting: &mut [u8], first: usize)
 
 // The contents from a place on are cleared.
 fn clear_from(waiting: &mut [u8], first: usize)
-    requires { (first ≤ mostPosts) × (length waiting.old ≡ postContents) }
+    requires { (first ≤ most_posts) × (length waiting.old ≡ post_contents) }
     ensures { waiting.new
-        ≡ take (mostContent * first) waiting.old ++ replicate (mostContent * (mostPosts - first)) 0 }
+        ≡ take (most_content * first) waiting.old ++ replicate (most_content * (most_posts - first)) 0 }
 {
     let mut i = first;
     while i < size::MOST_POSTS {
@@ -73,8 +73,8 @@ fn clear_from(waiting: &mut [u8], first: usize)
 // Without the n oldest: the others move up, in the contents that are lent too. Ruled out: the newest taken; a
 // content left behind.
 pub fn take_oldest(p: PostsHead, waiting: &mut [u8], n: u8) -> PostsHead
-    requires { (n ≤ p.count) × (p.count ≤ mostPosts) × (length waiting.old ≡ postContents) }
-    ensures { postsOn result waiting.new ≡ taken (postsOn p waiting.old) n }
+    requires { (n ≤ p.count) × (p.count ≤ most_posts) × (length waiting.old ≡ post_contents) }
+    ensures { posts_on result waiting.new ≡ taken (posts_on p waiting.old) n }
 {
     if n == 0 {
         return p;

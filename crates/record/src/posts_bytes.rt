@@ -1,16 +1,16 @@
 // The head of the waiting posts and its bytes. The contents that stand after it are left alone.
 ghost use Rattle.std.specs.Prelude.{◌≡◌, ◌+◌, ◌≤◌, length};
 ghost use Rattle.std.proofs.lemmas.List.Edits.{sets};
-ghost use Rattle.record.specs.Layout.{postsSize};
-ghost use Rattle.record.specs.Bytes.{postsOf, postsBytes};
-ghost use Rattle.record.specs.inner.Head.{postsOn, waitingIn};
+ghost use Rattle.record.specs.Layout.{posts_size};
+ghost use Rattle.record.specs.Bytes.{posts_of, posts_bytes};
+ghost use Rattle.record.specs.inner.Head.{posts_on, waiting_in};
 
 use crate::head::PostsHead;
 use crate::{layout, size};
 
 pub fn get_posts_head(s: &[u8]) -> PostsHead
-    requires { postsSize ≤ length s.now }
-    ensures { postsOn result (waitingIn s.now 0) ≡ postsOf s.now }
+    requires { posts_size ≤ length s.now }
+    ensures { posts_on result (waiting_in s.now 0) ≡ posts_of s.now }
 {
     let mut services = [0u16; size::MOST_POSTS];
     words::get_u16s(s, layout::POST_SERVICES_AT, size::MOST_POSTS, &mut services);
@@ -24,8 +24,8 @@ pub fn get_posts_head(s: &[u8]) -> PostsHead
 }
 
 pub fn put_posts_head(out: &mut [u8], at: usize, p: PostsHead)
-    requires { at + postsSize ≤ length out.old }
-    ensures { out.new ≡ sets out.old at (postsBytes (postsOn p (waitingIn out.old at))) }
+    requires { at + posts_size ≤ length out.old }
+    ensures { out.new ≡ sets out.old at (posts_bytes (posts_on p (waiting_in out.old at))) }
 {
     let services = p.services;
     let lengths = p.lengths;

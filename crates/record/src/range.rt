@@ -1,17 +1,17 @@
 // The first clause of whole: fields in range. The lengths of arrays are the types' own.
 ghost use Rattle.std.specs.Prelude.{◌≡◌, ◌≤◌, length};
-ghost use Rattle.frames.specs.Number.{mostNumber};
-ghost use Rattle.record.specs.Size.{heldContents, postContents};
-ghost use Rattle.record.specs.inner.Head.{heldOn, logOn, postsOn};
-ghost use Rattle.record.specs.Whole.{heldInRange, numbersInRange, logInRange, turnInRange, postsInRange};
+ghost use Rattle.frames.specs.Number.{most_number};
+ghost use Rattle.record.specs.Size.{held_contents, post_contents};
+ghost use Rattle.record.specs.inner.Head.{held_on, log_on, posts_on};
+ghost use Rattle.record.specs.Whole.{held_in_range, numbers_in_range, log_in_range, turn_in_range, posts_in_range};
 
 use crate::head::{LogHead, PostsHead};
 use crate::size;
 use crate::turn::Turn;
 
 fn held_in_range(l: LogHead, contents: &[u8]) -> bool
-    requires { length contents.now ≡ heldContents }
-    ensures { result ≡ heldInRange (heldOn l contents.now) }
+    requires { length contents.now ≡ held_contents }
+    ensures { result ≡ held_in_range (held_on l contents.now) }
 {
     let services = l.services;
     let lengths = l.lengths;
@@ -21,8 +21,8 @@ fn held_in_range(l: LogHead, contents: &[u8]) -> bool
 
 // A safe mark with 32 numbers above it needs no look at the places.
 fn numbers_in_range(l: LogHead, contents: &[u8]) -> bool
-    requires { l.safe.0 ≤ mostNumber }
-    ensures { result ≡ numbersInRange (logOn l contents.now) }
+    requires { l.safe.0 ≤ most_number }
+    ensures { result ≡ numbers_in_range (log_on l contents.now) }
 {
     let senders = l.senders;
     let safe = l.safe.0;
@@ -42,8 +42,8 @@ fn numbers_in_range(l: LogHead, contents: &[u8]) -> bool
 }
 
 pub fn log_in_range(l: LogHead, contents: &[u8]) -> bool
-    requires { length contents.now ≡ heldContents }
-    ensures { result ≡ logInRange (logOn l contents.now) }
+    requires { length contents.now ≡ held_contents }
+    ensures { result ≡ log_in_range (log_on l contents.now) }
 {
     let counted = l.count as usize <= size::MOST_MEMBERS;
     let level = l.level.0 <= frames::MOST_NUMBER;
@@ -56,7 +56,7 @@ pub fn log_in_range(l: LogHead, contents: &[u8]) -> bool
 }
 
 pub fn turn_in_range(t: Turn) -> bool
-    ensures { result ≡ turnInRange t }
+    ensures { result ≡ turn_in_range t }
 {
     (t.aru.0 <= frames::MOST_NUMBER)
         & (t.earlier.0 <= frames::MOST_NUMBER)
@@ -67,8 +67,8 @@ pub fn turn_in_range(t: Turn) -> bool
 }
 
 pub fn posts_in_range(p: PostsHead, waiting: &[u8]) -> bool
-    requires { length waiting.now ≡ postContents }
-    ensures { result ≡ postsInRange (postsOn p waiting.now) }
+    requires { length waiting.now ≡ post_contents }
+    ensures { result ≡ posts_in_range (posts_on p waiting.now) }
 {
     let services = p.services;
     let lengths = p.lengths;

@@ -1,7 +1,7 @@
 // Is it this ring's, and are they its members?
 ghost use Rattle.std.specs.Prelude.{◌≡◌};
 ghost use Rattle.record.specs.Members.{representative};
-ghost use Rattle.record.specs.Ring.{thisRing, blockerMember, tokenMembers, isToken, tokenPasses};
+ghost use Rattle.record.specs.Ring.{this_ring, blocker_member, token_members, is_token, token_passes};
 
 use crate::members;
 use frames::{Answer, Blocker, Header, RingNumber, Token};
@@ -18,13 +18,13 @@ pub fn representative_of(ids: &[u16]) -> u16
 
 // Question 13.
 pub fn this_ring(ring: RingNumber, ids: &[u16], h: Header) -> bool
-    ensures { result ≡ thisRing ring.0 ids.now h }
+    ensures { result ≡ this_ring ring.0 ids.now h }
 {
     (h.ring.0 == ring.0) & (h.representative == representative_of(ids))
 }
 
 fn blocker_member(ids: &[u16], b: Blocker) -> bool
-    ensures { result ≡ blockerMember ids.now b }
+    ensures { result ≡ blocker_member ids.now b }
 {
     match b {
         Blocker::Nobody => true,
@@ -34,14 +34,14 @@ fn blocker_member(ids: &[u16], b: Blocker) -> bool
 
 // Question 14, of a token.
 pub fn token_members(ids: &[u16], t: Token) -> bool
-    ensures { result ≡ tokenMembers ids.now t }
+    ensures { result ≡ token_members ids.now t }
 {
     let blocker = t.blocker;
     members::is_member(ids, t.addressee) & blocker_member(ids, blocker)
 }
 
 fn is_token(a: Answer) -> bool
-    ensures { result ≡ isToken a }
+    ensures { result ≡ is_token a }
 {
     match a {
         Answer::Refused(_) => false,
@@ -52,7 +52,7 @@ fn is_token(a: Answer) -> bool
 
 // Is it a token that passes questions 10 to 14?
 pub fn token_passes(ring: RingNumber, ids: &[u16], frame: &[u8]) -> bool
-    ensures { result ≡ tokenPasses ring.0 ids.now frame.now }
+    ensures { result ≡ token_passes ring.0 ids.now frame.now }
 {
     let reading = frames::read(frame);
     let token = reading.token;

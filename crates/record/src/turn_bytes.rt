@@ -1,15 +1,15 @@
 // The turn and its bytes.
 ghost use Rattle.std.specs.Prelude.{◌≡◌, ◌+◌, ◌≤◌, length};
 ghost use Rattle.std.proofs.lemmas.List.Edits.{sets};
-ghost use Rattle.record.specs.Layout.{turnSize};
-ghost use Rattle.record.specs.Bytes.{turn_of, turnBytes};
+ghost use Rattle.record.specs.Layout.{turn_size};
+ghost use Rattle.record.specs.Bytes.{turn_of, turn_bytes};
 
 use crate::layout;
 use crate::turn::Turn;
 use frames::{MessageNumber, TokenNumber};
 
 pub fn get_turn(s: &[u8]) -> Turn
-    requires { turnSize ≤ length s.now }
+    requires { turn_size ≤ length s.now }
     ensures { result ≡ turn_of s.now }
 {
     let mut token = [0u8; frames::LONGEST_TOKEN];
@@ -27,8 +27,8 @@ pub fn get_turn(s: &[u8]) -> Turn
 }
 
 pub fn put_turn(out: &mut [u8], at: usize, t: Turn)
-    requires { at + turnSize ≤ length out.old }
-    ensures { out.new ≡ sets out.old at (turnBytes t) }
+    requires { at + turn_size ≤ length out.old }
+    ensures { out.new ≡ sets out.old at (turn_bytes t) }
 {
     let token = t.token;
     words::put_u32(out, at + layout::TURN_ARU_AT, t.aru.0);

@@ -1,11 +1,11 @@
 // The last clause of whole: a part not in use is zero.
 ghost use Rattle.std.specs.Prelude.{◌≡◌, ◌++◌, ◌*◌, ◌≤◌, length, get_or, drop, replicate, leb};
-ghost use Rattle.words.specs.Scan.{allZero};
-ghost use Rattle.frames.specs.Layout.{mostContent};
-ghost use Rattle.record.specs.Size.{heldContents, postContents};
-ghost use Rattle.record.specs.Count.{everyFrom};
-ghost use Rattle.record.specs.inner.Head.{heldOn, logOn, postsOn};
-ghost use Rattle.record.specs.Whole.{contentsPadded, freePlacesZero, logUnusedZero, postsUnusedZero, turnUnusedZero};
+ghost use Rattle.words.specs.Scan.{all_zero};
+ghost use Rattle.frames.specs.Layout.{most_content};
+ghost use Rattle.record.specs.Size.{held_contents, post_contents};
+ghost use Rattle.record.specs.Count.{every_from};
+ghost use Rattle.record.specs.inner.Head.{held_on, log_on, posts_on};
+ghost use Rattle.record.specs.Whole.{contents_padded, free_places_zero, log_unused_zero, posts_unused_zero, turn_unused_zero};
 
 use crate::head::{LogHead, PostsHead};
 use crate::size;
@@ -13,7 +13,7 @@ use crate::turn::Turn;
 
 // Whatever stands from place n on is zero.
 fn zero_from_u16(s: &[u16], n: u8) -> bool
-    ensures { result ≡ allZero (drop n s.now) }
+    ensures { result ≡ all_zero (drop n s.now) }
 {
     let first = n as usize;
     if s.len() < first {
@@ -24,7 +24,7 @@ fn zero_from_u16(s: &[u16], n: u8) -> bool
 
 // Of bytes. Often n is 0: then the whole slice is looked at, whose length the compiler knows.
 fn zero_from_u8(s: &[u8], n: u8) -> bool
-    ensures { result ≡ allZero (drop n s.now) }
+    ensures { result ≡ all_zero (drop n s.now) }
 {
     if n == 0 {
         return words::all_zero_u8(s);
@@ -45,8 +45,8 @@ const LAST_PIECE: usize = frames::MOST_CONTENT - PIECE;
 // The bytes of a content from a place on: four pieces, which overlap where there are less than 64 bytes. Ruled
 // out: a byte between two pieces left out; the byte before the place asked to be zero.
 fn pieces_zero(s: &[u8], first: usize) -> bool
-    requires { (length s.now ≡ mostContent) × (first ≤ 48) }
-    ensures { result ≡ allZero (drop first s.now) }
+    requires { (length s.now ≡ most_content) × (first ≤ 48) }
+    ensures { result ≡ all_zero (drop first s.now) }
 {
     let second = words::smaller_usize(first + PIECE, LAST_PIECE);
     let third = words::smaller_usize(first + 2 * PIECE, LAST_PIECE);
@@ -66,7 +66,7 @@ fn pieces_zero(s: &[u8], first: usize) -> bool
 // Every byte of a piece is at most its limit.
 fn within_limits(s: &[u8], limits: &[u8]) -> bool
     requires { (length s.now ≡ 16) × (length limits.now ≡ 16) }
-    ensures { result ≡ everyFrom
+    ensures { result ≡ every_from
         (λ i. leb (get_or s.now i 0) (get_or limits.now i 0)) 0 16 }
 {
     let mut good = true;
@@ -84,8 +84,8 @@ const LIMITS: usize = 2 * PIECE;
 // each byte of the content and 0 for each past it; they are 16 neighbours in 16 times 255 and 16 times 0. Ruled
 // out: the last byte not looked at; a byte of the content asked to be zero.
 fn content_padded(s: &[u8], n: u8, limits: &[u8]) -> bool
-    requires { (length s.now ≡ mostContent) × (limits.now ≡ replicate 16 255 ++ replicate 16 0) }
-    ensures { result ≡ allZero (drop n s.now) }
+    requires { (length s.now ≡ most_content) × (limits.now ≡ replicate 16 255 ++ replicate 16 0) }
+    ensures { result ≡ all_zero (drop n s.now) }
 {
     if n == 0 {
         return words::all_zero_u8(s);
@@ -104,8 +104,8 @@ fn content_padded(s: &[u8], n: u8, limits: &[u8]) -> bool
 // The bytes past each content's length. Ruled out: the last content not looked at; a content's own
 // bytes asked to be zero.
 fn contents_padded(lengths: &[u8], contents: &[u8]) -> bool
-    requires { length contents.now ≡ mostContent * length lengths.now }
-    ensures { result ≡ contentsPadded lengths.now contents.now }
+    requires { length contents.now ≡ most_content * length lengths.now }
+    ensures { result ≡ contents_padded lengths.now contents.now }
 {
     let mut limits = [0u8; LIMITS];
     words::put_bytes(&mut limits, 0, &[255u8; PIECE]);
@@ -127,7 +127,7 @@ fn contents_padded(lengths: &[u8], contents: &[u8]) -> bool
 
 // With no way out of the loop, so that the compiler can test many at once.
 fn free_places_zero(l: LogHead, contents: &[u8]) -> bool
-    ensures { result ≡ freePlacesZero (heldOn l contents.now) }
+    ensures { result ≡ free_places_zero (held_on l contents.now) }
 {
     let senders = l.senders;
     let services = l.services;
@@ -142,8 +142,8 @@ fn free_places_zero(l: LogHead, contents: &[u8]) -> bool
 }
 
 pub fn log_unused_zero(l: LogHead, contents: &[u8]) -> bool
-    requires { length contents.now ≡ heldContents }
-    ensures { result ≡ logUnusedZero (logOn l contents.now) }
+    requires { length contents.now ≡ held_contents }
+    ensures { result ≡ log_unused_zero (log_on l contents.now) }
 {
     let members = l.members;
     let lengths = l.lengths;
@@ -153,8 +153,8 @@ pub fn log_unused_zero(l: LogHead, contents: &[u8]) -> bool
 }
 
 pub fn posts_unused_zero(p: PostsHead, waiting: &[u8]) -> bool
-    requires { length waiting.now ≡ postContents }
-    ensures { result ≡ postsUnusedZero (postsOn p waiting.now) }
+    requires { length waiting.now ≡ post_contents }
+    ensures { result ≡ posts_unused_zero (posts_on p waiting.now) }
 {
     let services = p.services;
     let lengths = p.lengths;
@@ -164,7 +164,7 @@ pub fn posts_unused_zero(p: PostsHead, waiting: &[u8]) -> bool
 }
 
 pub fn turn_unused_zero(t: Turn) -> bool
-    ensures { result ≡ turnUnusedZero t }
+    ensures { result ≡ turn_unused_zero t }
 {
     let token = t.token;
     zero_from_u8(&token, t.size)

@@ -1,10 +1,10 @@
 // Is a record whole?
 ghost use Rattle.std.specs.Prelude.{◌≡◌, cond, map, ◌≤◌, eqb, length};
-ghost use Rattle.frames.specs.Number.{mostNumber};
-ghost use Rattle.frames.specs.Layout.{longestToken};
-ghost use Rattle.record.specs.Size.{mostMembers, heldContents, postContents};
-ghost use Rattle.record.specs.inner.Head.{logOn, postsOn, recordOn};
-ghost use Rattle.record.specs.Whole.{sendersAreMembers, resendPasses, marksInOrder, arusReached, heldToLevel, nextNotHeld, logWhole, turnWhole, postsWhole, partsWhole, whole};
+ghost use Rattle.frames.specs.Number.{most_number};
+ghost use Rattle.frames.specs.Layout.{longest_token};
+ghost use Rattle.record.specs.Size.{most_members, held_contents, post_contents};
+ghost use Rattle.record.specs.inner.Head.{log_on, posts_on, record_on};
+ghost use Rattle.record.specs.Whole.{senders_are_members, resend_passes, marks_in_order, arus_reached, held_to_level, next_not_held, log_whole, turn_whole, posts_whole, parts_whole, whole};
 
 use crate::head::{Head, LogHead, PostsHead};
 use crate::turn::Turn;
@@ -33,8 +33,8 @@ fn strike(left: &mut [u16], id: u16)
 // last place not looked at; a free place taken for a stranger's. That there are 8 at the most is said again, so that
 // the compiler makes no code for more.
 fn senders_are_members(ids: &[u16], senders: [u16; size::MOST_HELD]) -> bool
-    requires { length ids.now ≤ mostMembers }
-    ensures { result ≡ sendersAreMembers ids.now senders }
+    requires { length ids.now ≤ most_members }
+    ensures { result ≡ senders_are_members ids.now senders }
 {
     let count = words::smaller_usize(ids.len(), size::MOST_MEMBERS);
     let mut left = senders;
@@ -47,8 +47,8 @@ fn senders_are_members(ids: &[u16], senders: [u16; size::MOST_HELD]) -> bool
 }
 
 fn resend_passes(ring: RingNumber, ids: &[u16], t: Turn) -> bool
-    requires { t.size ≤ longestToken }
-    ensures { result ≡ resendPasses ring.0 ids.now t }
+    requires { t.size ≤ longest_token }
+    ensures { result ≡ resend_passes ring.0 ids.now t }
 {
     if t.size == 0 {
         return true;
@@ -58,20 +58,20 @@ fn resend_passes(ring: RingNumber, ids: &[u16], t: Turn) -> bool
 }
 
 fn marks_in_order(l: LogHead, contents: &[u8]) -> bool
-    ensures { result ≡ marksInOrder (logOn l contents.now) }
+    ensures { result ≡ marks_in_order (log_on l contents.now) }
 {
     (l.safe.0 <= l.delivered.0) & (l.delivered.0 <= l.level.0)
 }
 
 fn arus_reached(t: Turn, level: MessageNumber) -> bool
-    ensures { result ≡ arusReached t level.0 }
+    ensures { result ≡ arus_reached t level.0 }
 {
     (t.aru.0 <= level.0) & (t.earlier.0 <= level.0)
 }
 
 // Place by place, with no way out of the loop, so that the compiler can test many at once.
 fn held_to_level(l: LogHead, contents: &[u8]) -> bool
-    ensures { result ≡ heldToLevel (logOn l contents.now) }
+    ensures { result ≡ held_to_level (log_on l contents.now) }
 {
     let senders = l.senders;
     let many = words::saturating_sub(l.level.0, l.safe.0);
@@ -89,8 +89,8 @@ fn held_to_level(l: LogHead, contents: &[u8]) -> bool
 }
 
 fn next_not_held(l: LogHead, contents: &[u8]) -> bool
-    requires { (l.safe.0 ≤ mostNumber) × (l.level.0 ≤ mostNumber) }
-    ensures { result ≡ nextNotHeld (logOn l contents.now) }
+    requires { (l.safe.0 ≤ most_number) × (l.level.0 ≤ most_number) }
+    ensures { result ≡ next_not_held (log_on l contents.now) }
 {
     !held::is_held(l.safe, &l.senders, MessageNumber(l.level.0 + 1))
 }
@@ -98,8 +98,8 @@ fn next_not_held(l: LogHead, contents: &[u8]) -> bool
 // The clauses of the log: its ranges first, which the others need. Ruled out: a gap below the level; a stranger's
 // message held.
 fn log_whole(own: u16, l: LogHead, contents: &[u8]) -> bool
-    requires { length contents.now ≡ heldContents }
-    ensures { result ≡ logWhole own (logOn l contents.now) }
+    requires { length contents.now ≡ held_contents }
+    ensures { result ≡ log_whole own (log_on l contents.now) }
 {
     if !range::log_in_range(l, contents) {
         return false;
@@ -118,8 +118,8 @@ fn log_whole(own: u16, l: LogHead, contents: &[u8]) -> bool
 
 // The clauses of the turn. Ruled out: a token of another ring; an aru above the level.
 fn turn_whole(l: LogHead, contents: &[u8], t: Turn) -> bool
-    requires { l.count ≤ mostMembers }
-    ensures { result ≡ turnWhole (logOn l contents.now) t }
+    requires { l.count ≤ most_members }
+    ensures { result ≡ turn_whole (log_on l contents.now) t }
 {
     if !range::turn_in_range(t) {
         return false;
@@ -133,8 +133,8 @@ fn turn_whole(l: LogHead, contents: &[u8], t: Turn) -> bool
 
 // The clauses of the posts.
 fn posts_whole(p: PostsHead, waiting: &[u8]) -> bool
-    requires { length waiting.now ≡ postContents }
-    ensures { result ≡ postsWhole (postsOn p waiting.now) }
+    requires { length waiting.now ≡ post_contents }
+    ensures { result ≡ posts_whole (posts_on p waiting.now) }
 {
     if !range::posts_in_range(p, waiting) {
         return false;
@@ -145,8 +145,8 @@ fn posts_whole(p: PostsHead, waiting: &[u8]) -> bool
 // All clauses but the panel's, of any values of the head and any contents: the posts, then the log, which the turn
 // needs. Ruled out: a record with a gap below its level; one whose token is another ring's.
 pub fn is_whole_on(h: Head, contents: &[u8], waiting: &[u8]) -> bool
-    requires { (length contents.now ≡ heldContents) × (length waiting.now ≡ postContents) }
-    ensures { result ≡ partsWhole (recordOn h contents.now waiting.now) }
+    requires { (length contents.now ≡ held_contents) × (length waiting.now ≡ post_contents) }
+    ensures { result ≡ parts_whole (record_on h contents.now waiting.now) }
 {
     if !posts_whole(h.posts, waiting) {
         return false;

@@ -15,12 +15,12 @@ pub data Call : Type 0 where
   resending : (place : ℕ) (frames : List ℕ) → Call
 
 -- the place of the station where it is made
-abbrev pub stationOf : Call → ℕ
-stationOf (post place service content) = place
-stationOf (arrival place frame frames deliveries) = place
-stationOf (resending place frames) = place
+abbrev pub station_of : Call → ℕ
+station_of (post place service content) = place
+station_of (arrival place frame frames deliveries) = place
+station_of (resending place frames) = place
 
-abbrev pub replyTo : Record → Call → Reply
-replyTo r (post place service content) = posted r service content
-replyTo r (arrival place frame frames deliveries) = arrived r frame (length frames) (length deliveries)
-replyTo r (resending place frames) = resent r (length frames)
+abbrev pub reply_to : Record → Call → Reply
+reply_to r (post place service content) = posted r service content
+reply_to r (arrival place frame frames deliveries) = arrived r frame (length frames) (length deliveries)
+reply_to r (resending place frames) = resent r (length frames)

@@ -2,9 +2,9 @@
 use Rattle.std.specs.Prelude.{ℕ, ◌<◌, ◌≤◌, ◌≡◌, true, List, [], ◌∷◌, ◌++◌, ◌⊎◌, length}
 use Rattle.std.proofs.Math.Option.{some}
 use Rattle.ordering.specs.Lists.{Among, OneBegins}
-use Rattle.ring.specs.Calls.{Call, post, arrival, resending, stationOf}
-use Rattle.ring.specs.History.{Event, Written, OnCable, reading, isSafe, Received, deliveryList, handedBy, DeliveredAt, isAccepted}
-use Rattle.ring.specs.Run.{ringFoundable, firstFrame, ringOf, Account, eventAfter, overStructs}
+use Rattle.ring.specs.Calls.{Call, post, arrival, resending, station_of}
+use Rattle.ring.specs.History.{Event, Written, OnCable, reading, is_safe, Received, delivery_list, handed_by, DeliveredAt, is_accepted}
+use Rattle.ring.specs.Run.{ring_foundable, first_frame, ring_of, Account, event_after, over_structs}
 
 -- an arrival is handed a copy of a frame that is on the cable
 abbrev pub Handed : List (List ℕ) → List Event → Call → Type 0
@@ -17,21 +17,21 @@ module _ (members : List ℕ) (ring : ℕ) (a : Account) where
   abbrev pub CanAfter : List Call → List Call → Type 0
   CanAfter before [] = Unit {0}
   CanAfter before (c ∷ cs) =
-      (stationOf c < length members)
-      × Handed (firstFrame members ring ∷ []) (a.history before) c
+      (station_of c < length members)
+      × Handed (first_frame members ring ∷ []) (a.history before) c
       × CanAfter (before ++ (c ∷ [])) cs
 
   abbrev pub IsReceived : List Call → ℕ → ℕ → Type 0
-  IsReceived calls p n = Received (ringOf members ring) (a.history calls) p n
+  IsReceived calls p n = Received (ring_of members ring) (a.history calls) p n
 
   abbrev pub IsReading : List Call → ℕ → Written → Type 0
-  IsReading calls n w = reading (ringOf members ring) (a.history calls) n ≡ some w
+  IsReading calls n w = reading (ring_of members ring) (a.history calls) n ≡ some w
 
   -- ---- delivery lists are alike or one begins the other
 
   abbrev pub OneOrder : List Call → Type 0
   OneOrder calls = (p q : ℕ) → p < length members → q < length members
-      → OneBegins (deliveryList p (a.history calls)) (deliveryList q (a.history calls))
+      → OneBegins (delivery_list p (a.history calls)) (delivery_list q (a.history calls))
 
   -- ---- a safe reading delivered anywhere had been received everywhere before the call that delivered it
 
@@ -40,8 +40,8 @@ module _ (members : List ℕ) (ring : ℕ) (a : Account) where
       → calls ≡ before ++ (c ∷ later)
       → (n : ℕ) (w : Written)
       → IsReading calls n w
-      → isSafe w.frame ≡ true
-      → Among w.frame (handedBy (eventAfter a before c))
+      → is_safe w.frame ≡ true
+      → Among w.frame (handed_by (event_after a before c))
       → (p : ℕ) → p < length members → IsReceived before p n
 
   -- ---- what everybody has received, everybody has delivered three rounds later
@@ -50,7 +50,7 @@ module _ (members : List ℕ) (ring : ℕ) (a : Account) where
   abbrev pub AcceptedIn : ℕ → List Call → List Call → Type 0
   AcceptedIn p before [] = ⊥
   AcceptedIn p before (c ∷ cs) =
-      ((stationOf c ≡ p) × (isAccepted (eventAfter a before c) ≡ true))
+      ((station_of c ≡ p) × (is_accepted (event_after a before c) ≡ true))
       ⊎ AcceptedIn p (before ++ (c ∷ [])) cs
 
   -- a round is over when each station has accepted one more; the next begins there
@@ -69,17 +69,17 @@ module _ (members : List ℕ) (ring : ℕ) (a : Account) where
       → (p : ℕ) (w : Written) → p < length members → IsReading calls n w → DeliveredAt p (a.history calls) w.frame
 
   pub record WholeRun (calls : List Call) : Type 0 where
-    pub one-order : OneOrder calls
-    pub safe-first : SafeFirst calls
+    pub one_order : OneOrder calls
+    pub safe_first : SafeFirst calls
     pub delivered : Delivered calls
 
 -- it holds for 2 to 8 stations founded on one list and ring number, and every list of calls
 abbrev pub EveryRun : (List ℕ → ℕ → Account → List Call → Type 0) → Type 0
 EveryRun P = (members : List ℕ) (ring : ℕ)
-    → ringFoundable members ring ≡ true
+    → ring_foundable members ring ≡ true
     → (calls : List Call)
-    → CanAfter members ring (overStructs members ring) [] calls
-    → P members ring (overStructs members ring) calls
+    → CanAfter members ring (over_structs members ring) [] calls
+    → P members ring (over_structs members ring) calls
 
 abbrev pub Demand₃ : Type 0
 Demand₃ = EveryRun WholeRun

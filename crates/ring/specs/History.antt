@@ -6,13 +6,13 @@ use Rattle.frames.specs.Read.{read_of}
 use Rattle.frames.specs.declared.header.Header.{Header}
 use Rattle.frames.specs.declared.reader.Answer.{Answer}
 use Rattle.frames.specs.declared.reader.Answer.TheVariants.{Refused, IsMessage, IsToken}
-use Rattle.record.specs.Ring.{isToken}
-use Rattle.station.specs.Answer.{outcomeOf}
+use Rattle.record.specs.Ring.{is_token}
+use Rattle.station.specs.Answer.{outcome_of}
 use Rattle.station.specs.Reply.{Reply}
-use Rattle.visit.specs.Within.{framesIn}
+use Rattle.visit.specs.Within.{frames_in}
 use Rattle.station.specs.declared.answer.Answer.{Answer as Said}
 use Rattle.ordering.specs.Lists.{Among, first_of}
-use Rattle.ring.specs.Calls.{Call, post, arrival, resending, stationOf}
+use Rattle.ring.specs.Calls.{Call, post, arrival, resending, station_of}
 
 -- a call and its reply
 pub record Event : Type 0 where
@@ -20,71 +20,71 @@ pub record Event : Type 0 where
   pub reply : Reply
 
 abbrev pub place : Event → ℕ
-place e = stationOf e.call
+place e = station_of e.call
 
 -- ---- written for the cable: a frame within an answer's output counts, deliveries apart
 
 abbrev pub written_by : Event → List (List ℕ)
-written_by e = framesIn e.reply.frames
+written_by e = frames_in e.reply.frames
 
 -- a frame and the place of the call that wrote it
 pub record Written : Type 0 where
   pub frame : List ℕ
   pub place : ℕ
 
-abbrev pub writtenAt : ℕ → List ℕ → Written
-writtenAt place frame = record { frame = frame; place = place }
+abbrev pub written_at : ℕ → List ℕ → Written
+written_at place frame = record { frame = frame; place = place }
 
 -- all that the calls wrote for the cable, the oldest first
-unfoldable pub writtenIn : List Event → List Written
-writtenIn [] = []
-writtenIn (e ∷ earlier) = writtenIn earlier ++ map (writtenAt (place e)) (written_by e)
+unfoldable pub written_in : List Event → List Written
+written_in [] = []
+written_in (e ∷ earlier) = written_in earlier ++ map (written_at (place e)) (written_by e)
 
 -- a frame is on the cable: the first token of a ring that was founded, or written by a call
 abbrev pub OnCable : List (List ℕ) → List Event → List ℕ → Type 0
-OnCable firsts history frame = Among frame firsts ⊎ ((place : ℕ) × Among (writtenAt place frame) (writtenIn history))
+OnCable firsts history frame = Among frame firsts ⊎ ((place : ℕ) × Among (written_at place frame) (written_in history))
 
 -- ---- reading n: the ring's first message frame with number n that a call wrote for the cable
 
-abbrev pub sameRing : Header → Header → Bool
-sameRing ring h = eqb h.ring.0 ring.ring.0 && eqb h.representative ring.representative
+abbrev pub same_ring : Header → Header → Bool
+same_ring ring h = eqb h.ring.0 ring.ring.0 && eqb h.representative ring.representative
 
-abbrev pub isMessageOf : Header → ℕ → Answer → Bool
-isMessageOf ring n (Refused why) = false
-isMessageOf ring n (IsMessage m) = sameRing ring m.header && eqb m.number.0 n
-isMessageOf ring n IsToken = false
+abbrev pub is_message_of : Header → ℕ → Answer → Bool
+is_message_of ring n (Refused why) = false
+is_message_of ring n (IsMessage m) = same_ring ring m.header && eqb m.number.0 n
+is_message_of ring n IsToken = false
 
-unfoldable pub isNumbered : Header → ℕ → List ℕ → Bool
-isNumbered ring n frame = isMessageOf ring n (read_of frame).answer
+unfoldable pub is_numbered : Header → ℕ → List ℕ → Bool
+is_numbered ring n frame = is_message_of ring n (read_of frame).answer
 
 unfoldable pub reading : Header → List Event → ℕ → Option Written
-reading ring history n = first_of (λ w. isNumbered ring n w.frame) (writtenIn history)
+reading ring history n = first_of (λ w. is_numbered ring n w.frame) (written_in history)
 
 -- its service says whether it is safe
-abbrev pub saysSafe : Answer → Bool
-saysSafe (Refused why) = false
-saysSafe (IsMessage m) = eqb m.service 1
-saysSafe IsToken = false
+abbrev pub says_safe : Answer → Bool
+says_safe (Refused why) = false
+says_safe (IsMessage m) = eqb m.service 1
+says_safe IsToken = false
 
-unfoldable pub isSafe : List ℕ → Bool
-isSafe frame = saysSafe (read_of frame).answer
+unfoldable pub is_safe : List ℕ → Bool
+is_safe frame = says_safe (read_of frame).answer
 
 -- ---- reading n is received at a station: an arrival there answered 'kept' for its frame, or the call that first wrote it was made there
 
 -- the outcome 'kept' is 3
-abbrev pub saidKept : Said → Bool
-saidKept answer = eqb (outcomeOf answer).outcome 3
+abbrev pub said_kept : Said → Bool
+said_kept answer = eqb (outcome_of answer).outcome 3
 
 -- the frame that was handed over
-abbrev pub handedOver : Call → Option (List ℕ)
-handedOver (post place service content) = none
-handedOver (arrival place frame frames deliveries) = some frame
-handedOver (resending place frames) = none
+abbrev pub handed_over : Call → Option (List ℕ)
+handed_over (post place service content) = none
+handed_over (arrival place frame frames deliveries) = some frame
+handed_over (resending place frames) = none
 
 abbrev pub KeptAt : ℕ → List ℕ → List Event → Type 0
 KeptAt p frame [] = ⊥
 KeptAt p frame (e ∷ earlier) =
-    ((place e ≡ p) × (handedOver e.call ≡ some frame) × (saidKept e.reply.answer ≡ true))
+    ((place e ≡ p) × (handed_over e.call ≡ some frame) × (said_kept e.reply.answer ≡ true))
     ⊎ KeptAt p frame earlier
 
 pub record Received (ring : Header) (history : List Event) (p n : ℕ) : Type 0 where
@@ -94,17 +94,17 @@ pub record Received (ring : Header) (history : List Event) (p n : ℕ) : Type 0 
 
 -- ---- a station's delivery list: the frames that its calls handed out, joined in the order of the calls
 
-unfoldable pub deliveryList : ℕ → List Event → List ℕ
-deliveryList p [] = []
-deliveryList p (e ∷ earlier) = deliveryList p earlier ++ cond (eqb (place e) p) e.reply.deliveries []
+unfoldable pub delivery_list : ℕ → List Event → List ℕ
+delivery_list p [] = []
+delivery_list p (e ∷ earlier) = delivery_list p earlier ++ cond (eqb (place e) p) e.reply.deliveries []
 
 -- the frames in it, and delivered there: in that list
-abbrev pub handedBy : Event → List (List ℕ)
-handedBy e = framesIn e.reply.deliveries
+abbrev pub handed_by : Event → List (List ℕ)
+handed_by e = frames_in e.reply.deliveries
 
 unfoldable pub deliveries : ℕ → List Event → List (List ℕ)
 deliveries p [] = []
-deliveries p (e ∷ earlier) = deliveries p earlier ++ cond (eqb (place e) p) (handedBy e) []
+deliveries p (e ∷ earlier) = deliveries p earlier ++ cond (eqb (place e) p) (handed_by e) []
 
 abbrev pub DeliveredAt : ℕ → List Event → List ℕ → Type 0
 DeliveredAt p history frame = Among frame (deliveries p history)
@@ -112,17 +112,17 @@ DeliveredAt p history frame = Among frame (deliveries p history)
 -- ---- accepted token: an arrival of a token whose answer writes the token with the next number
 
 -- a token frame with that number
-unfoldable pub isTokenNumbered : ℕ → List ℕ → Bool
-isTokenNumbered n frame = isToken (read_of frame).answer && eqb (read_of frame).token.number.0 n
+unfoldable pub is_token_numbered : ℕ → List ℕ → Bool
+is_token_numbered n frame = is_token (read_of frame).answer && eqb (read_of frame).token.number.0 n
 
 unfoldable pub any_of : (List ℕ → Bool) → List (List ℕ) → Bool
 any_of test [] = false
 any_of test (f ∷ fs) = test f || any_of test fs
 
-abbrev pub acceptsToken : Option (List ℕ) → List (List ℕ) → Bool
-acceptsToken none frames = false
-acceptsToken (some frame) frames =
-    isToken (read_of frame).answer && any_of (isTokenNumbered ((read_of frame).token.number.0 + 1)) frames
+abbrev pub accepts_token : Option (List ℕ) → List (List ℕ) → Bool
+accepts_token none frames = false
+accepts_token (some frame) frames =
+    is_token (read_of frame).answer && any_of (is_token_numbered ((read_of frame).token.number.0 + 1)) frames
 
-unfoldable pub isAccepted : Event → Bool
-isAccepted e = acceptsToken (handedOver e.call) (written_by e)
+unfoldable pub is_accepted : Event → Bool
+is_accepted e = accepts_token (handed_over e.call) (written_by e)

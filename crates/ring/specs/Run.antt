@@ -1,49 +1,49 @@
 -- A ring of stations founded on one list and ring number, and a list of calls. [document 01, The words of demand 3]
 use Rattle.std.specs.Prelude.{ℕ, ◌<◌, ◌≡◌, Bool, true, ◌&&◌, cond, List, [], ◌∷◌, length, get_or, eqb}
-use Rattle.frames.specs.Layout.{shortestToken}
+use Rattle.frames.specs.Layout.{shortest_token}
 use Rattle.frames.specs.declared.header.Header.{Header}
-use Rattle.record.specs.Lent.{noRecord}
-use Rattle.record.specs.Members.{representative, membersCounted, idsFollow, ringInRange}
+use Rattle.record.specs.Lent.{no_record}
+use Rattle.record.specs.Members.{representative, members_counted, ids_follow, ring_in_range}
 use Rattle.record.specs.Whole.{whole}
 use Rattle.record.specs.declared.Record.{Record}
 use Rattle.station.specs.Reply.{Reply}
-use Rattle.station.specs.Found.{foundedOn}
-use Rattle.ring.specs.Calls.{Call, stationOf, replyTo}
+use Rattle.station.specs.Found.{founded_on}
+use Rattle.ring.specs.Calls.{Call, station_of, reply_to}
 use Rattle.ring.specs.History.{Event}
 
 -- ---- founding: one record for each member, and the ring's first token on the cable
 
 -- a list of members and a ring number on which a ring can be founded: questions 3, 4 and 6; each member then founds its own station
-unfoldable pub ringFoundable : List ℕ → ℕ → Bool
-ringFoundable members ring = membersCounted members && idsFollow members && ringInRange ring
+unfoldable pub ring_foundable : List ℕ → ℕ → Bool
+ring_foundable members ring = members_counted members && ids_follow members && ring_in_range ring
 
 -- founding at a place
-abbrev pub foundedAt : List ℕ → ℕ → ℕ → Reply
-foundedAt members ring p = foundedOn noRecord shortestToken members (get_or members p 0) ring
+abbrev pub founded_at : List ℕ → ℕ → ℕ → Reply
+founded_at members ring p = founded_on no_record shortest_token members (get_or members p 0) ring
 
 -- the records that founding left, by place
 abbrev pub records : List ℕ → ℕ → ℕ → Record
-records members ring p = (foundedAt members ring p).rec
+records members ring p = (founded_at members ring p).rec
 
 -- the ring's first token
-abbrev pub firstFrame : List ℕ → ℕ → List ℕ
-firstFrame members ring = (foundedAt members ring 0).frames
+abbrev pub first_frame : List ℕ → ℕ → List ℕ
+first_frame members ring = (founded_at members ring 0).frames
 
 -- every founding writes it: no own id stands in it
 abbrev pub OneFirst : Type 0
 OneFirst = (members : List ℕ) (ring : ℕ)
-    → ringFoundable members ring ≡ true
-    → (p : ℕ) → p < length members → (foundedAt members ring p).frames ≡ firstFrame members ring
+    → ring_foundable members ring ≡ true
+    → (p : ℕ) → p < length members → (founded_at members ring p).frames ≡ first_frame members ring
 
 -- the ring: its number and representative
-abbrev pub ringOf : List ℕ → ℕ → Header
-ringOf members ring = record { ring = record { 0 = ring }; representative = representative members }
+abbrev pub ring_of : List ℕ → ℕ → Header
+ring_of members ring = record { ring = record { 0 = ring }; representative = representative members }
 
 -- ---- a list of calls, whatever represents a station
 
 -- what a call at a station replies, what it leaves, and whether the record is whole
 pub record Representation (S : Type 0) : Type 0 where
-  pub replyOf : S → Call → Reply
+  pub reply_of : S → Call → Reply
   pub leaves : S → Call → S
   pub is_whole : S → Bool
 
@@ -65,8 +65,8 @@ module _ {S : Type 0} (stations : Representation S) where
   unfoldable pub step : Ring S → Call → Ring S
   step r c =
       record {
-        at = update (stationOf c) (stations.leaves (r.at (stationOf c)) c) r.at;
-        history = record { call = c; reply = stations.replyOf (r.at (stationOf c)) c } ∷ r.history;
+        at = update (station_of c) (stations.leaves (r.at (station_of c)) c) r.at;
+        history = record { call = c; reply = stations.reply_of (r.at (station_of c)) c } ∷ r.history;
       }
 
   -- the ring after a list of calls
@@ -83,22 +83,22 @@ pub record Account : Type 0 where
   pub is_whole : List Call → ℕ → Bool
 
 -- from those stations on
-abbrev pub accountOf : {S : Type 0} → Representation S → (ℕ → S) → Account
-accountOf stations founded =
+abbrev pub account_of : {S : Type 0} → Representation S → (ℕ → S) → Account
+account_of stations founded =
     record {
       history = λ calls. (run stations (start founded) calls).history;
-      reply = λ before c. stations.replyOf ((run stations (start founded) before).at (stationOf c)) c;
+      reply = λ before c. stations.reply_of ((run stations (start founded) before).at (station_of c)) c;
       is_whole = λ calls p. stations.is_whole ((run stations (start founded) calls).at p);
     }
 
 -- one call more
-abbrev pub eventAfter : Account → List Call → Call → Event
-eventAfter a before c = record { call = c; reply = a.reply before c }
+abbrev pub event_after : Account → List Call → Call → Event
+event_after a before c = record { call = c; reply = a.reply before c }
 
 -- ---- stations whose records are structs, from the records that founding left
 
 abbrev pub structs : Representation Record
-structs = record { replyOf = replyTo; leaves = λ r c. (replyTo r c).rec; is_whole = whole }
+structs = record { reply_of = reply_to; leaves = λ r c. (reply_to r c).rec; is_whole = whole }
 
-abbrev pub overStructs : List ℕ → ℕ → Account
-overStructs members ring = accountOf structs (records members ring)
+abbrev pub over_structs : List ℕ → ℕ → Account
+over_structs members ring = account_of structs (records members ring)

@@ -1,19 +1,19 @@
 // The frames within the bytes that a call wrote, one after another: messages for all stations, and a
 // visit's token last.
 ghost use Rattle.std.specs.Prelude.{◌≡◌, ◌≤◌, ◌<◌, [], length, take};
-ghost use Rattle.frames.specs.Header.{ownSize};
+ghost use Rattle.frames.specs.Header.{own_size};
 ghost use Rattle.frames.specs.Read.{read_of};
-ghost use Rattle.visit.specs.Output.{followedBy};
-ghost use Rattle.visit.specs.Within.{framesIn};
+ghost use Rattle.visit.specs.Output.{followed_by};
+ghost use Rattle.visit.specs.Within.{frames_in};
 ghost use Rattle.ring.specs.Newest.{last_of};
-ghost use Rattle.ring.specs.Stations.{withRecord, isMessage, Reached, heardAt};
+ghost use Rattle.ring.specs.Stations.{with_record, is_message, Reached, heard_at};
 
 use crate::stations;
 
 // How long the first frame within these bytes is; there is one while there are bytes. Ruled out: a
 // size past their end; 0 for a length field that is cut off.
 pub fn first_size(written: &[u8]) -> usize
-    ensures value { result ≡ length (take (ownSize written.now) written.now) }
+    ensures value { result ≡ length (take (own_size written.now) written.now) }
     ensures result_nonzero { 0 < length written.now → 0 < result }
 {
     let size = frames::framed_size(written);
@@ -29,7 +29,7 @@ pub fn first_size(written: &[u8]) -> usize
 // The last of the frames: a visit's token. Ruled out: the first frame; a copy that is not a part of
 // these bytes.
 pub fn newest_token(written: &[u8]) -> &[u8]
-    ensures { result.now ≡ last_of [] (framesIn written.now) }
+    ensures { result.now ≡ last_of [] (frames_in written.now) }
 {
     let mut from = 0;
     let mut next = first_size(written);
@@ -41,7 +41,7 @@ pub fn newest_token(written: &[u8]) -> &[u8]
 }
 
 fn is_message(frame: &[u8]) -> bool
-    ensures { result ≡ isMessage (read_of frame.now).answer }
+    ensures { result ≡ is_message (read_of frame.now).answer }
 {
     let reading = frames::read(frame);
     let answer = reading.answer;
@@ -70,12 +70,12 @@ fn hear(records: &mut [u8], place: usize, frame: &[u8], deliveries: &mut [u8], a
 // joined in `deliveries`; answers how many bytes that is. Ruled out: a message left out; the order
 // turned round.
 pub fn hear_all(records: &mut [u8], place: usize, written: &[u8], deliveries: &mut [u8]) -> usize
-    ensures { (result ≡ length (heardAt place records.old written.now (length deliveries.old)).handed)
-        × (records.new ≡ withRecord place
-        (heardAt place records.old written.now (length deliveries.old)).bytes
+    ensures { (result ≡ length (heard_at place records.old written.now (length deliveries.old)).handed)
+        × (records.new ≡ with_record place
+        (heard_at place records.old written.now (length deliveries.old)).bytes
         records.old)
-        × (deliveries.new ≡ followedBy
-        (heardAt place records.old written.now (length deliveries.old)).handed
+        × (deliveries.new ≡ followed_by
+        (heard_at place records.old written.now (length deliveries.old)).handed
         deliveries.old) }
 {
     let mut from = 0;

@@ -7,7 +7,7 @@ mod members;
 mod stations;
 
 ghost use Rattle.std.specs.Prelude.{◌≡◌, true};
-ghost use Rattle.ring.specs.Run.{ringFoundable};
+ghost use Rattle.ring.specs.Run.{ring_foundable};
 ghost use Rattle.ring.specs.Promise.{Promised};
 
 pub use broadcasts::{first_size, hear_all, newest_token};
@@ -21,7 +21,7 @@ pub use stations::{arrive_at, post_at};
 // records stay whole: over structs, and over bytes in whatever buffers the members founded.
 // Ruled out: yes to a ring of one; no to a list that founding takes.
 pub fn foundable(members: &[u16], ring: RingNumber) -> bool
-    ensures { (result ≡ ringFoundable members.now ring.0)
+    ensures { (result ≡ ring_foundable members.now ring.0)
         × (result ≡ true → Promised members.now ring.0) }
 {
     record::members_counted(members) & record::ids_follow(members) & frames::is_number(ring.0)

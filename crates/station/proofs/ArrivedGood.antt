@@ -5,14 +5,14 @@ use mathlib.Core.Bool.{Bool, true, false, cond}
 use mathlib.Core.List.{List}
 use native.Mathlib.Omega.{arith}
 use lib.ListN.{length}
-use Rattle.frames.specs.Message.{contentOf}
+use Rattle.frames.specs.Message.{content_of}
 use Rattle.frames.specs.declared.message.Message.{Message}
 use Rattle.record.specs.Ring.{current}
 use Rattle.record.specs.declared.Record.{Record}
-use Rattle.station.specs.Answer.{outcomeOf}
+use Rattle.station.specs.Answer.{outcome_of}
 use Rattle.station.specs.Reply.{Reply}
-use Rattle.visit.specs.Message.{heardOf}
-use Rattle.station.specs.Arrive.{heardAnswer, messageHeard}
+use Rattle.visit.specs.Message.{heard_of}
+use Rattle.station.specs.Arrive.{heard_answer, message_heard}
 use Rattle.visit.specs.Visit.{Visit}
 use Rattle.station.specs.Arrive.{accepted}
 use Rattle.station.specs.EveryReply.{Good}
@@ -29,20 +29,20 @@ use Rattle.visit.proofs.VisitWhole.{accepted-whole}
 
 -- had, ahead or kept: an outcome with no frame
 record Outcomes (n : ℕ) (answer : Answer) : Type 0 where
-  some : 0 < (outcomeOf answer).outcome
-  frames : (outcomeOf answer).frames ≡ 0
-  deliveries : (outcomeOf answer).deliveries ≡ n
+  some : 0 < (outcome_of answer).outcome
+  frames : (outcome_of answer).frames ≡ 0
+  deliveries : (outcome_of answer).deliveries ≡ n
 
-outcomes : (how : Hearing) (n : ℕ) → Outcomes n (heardAnswer how n)
+outcomes : (how : Hearing) (n : ℕ) → Outcomes n (heard_answer how n)
 outcomes WasHad n = record { some = omega arith; frames = refl; deliveries = refl }
 outcomes IsAhead n = record { some = omega arith; frames = refl; deliveries = refl }
 outcomes IsKept n = record { some = omega arith; frames = refl; deliveries = refl }
 
-heard-good : (r : Record) (m : Message) (content : List ℕ) → Hearable r m content → Good r (messageHeard r m content)
-unfolding messageHeard
+heard-good : (r : Record) (m : Message) (content : List ℕ) → Hearable r m content → Good r (message_heard r m content)
+unfolding message_heard
 heard-good r m content h =
-    let t = outcomes (heardOf r m content).how (heardOf r m content).size in
-    taken-good r (messageHeard r m content) t.some (t.frames, t.deliveries) (λ w. heard-whole r m content w h.follows h.member)
+    let t = outcomes (heard_of r m content).how (heard_of r m content).size in
+    taken-good r (message_heard r m content) t.some (t.frames, t.deliveries) (λ w. heard-whole r m content w h.follows h.member)
 
 accepted-good : (v : Visit) → Acceptable v → Good v.rec (accepted v)
 unfolding accepted
@@ -53,5 +53,5 @@ arrived-good r frame frames deliveries = go (arrived r frame frames deliveries) 
   where
     go : (reply : Reply) → ArrivedCase r frame reply → Good r reply
     go reply (refuses why e) = rw e (refused-good r why)
-    go reply (hears m read h e) = rw e (heard-good r m (contentOf frame) h)
+    go reply (hears m read h e) = rw e (heard-good r m (content_of frame) h)
     go reply (accepts t read a e) = rw e (accepted-good (visit r t) a)

@@ -9,26 +9,26 @@ use lib.ListN.{length, drop, replicate, drop_of_length-le, length-replicate}
 use lib.Dec.{leb}
 use lib.Seq.{length-take-le}
 use Rattle.words.specs.Word.{word_at, word_of}
-use Rattle.frames.specs.Layout.{shortestToken}
-use Rattle.record.specs.Layout.{recordSize}
-use Rattle.record.specs.Members.{membersCounted, idsFollow, ownAmong, ringInRange}
-use Rattle.record.specs.Bytes.{recordBytes, logOf, recordOf}
-use Rattle.record.specs.Lent.{noRecord, lent}
+use Rattle.frames.specs.Layout.{shortest_token}
+use Rattle.record.specs.Layout.{record_size}
+use Rattle.record.specs.Members.{members_counted, ids_follow, own_among, ring_in_range}
+use Rattle.record.specs.Bytes.{record_bytes, log_of, record_of}
+use Rattle.record.specs.Lent.{no_record, lent}
 use Rattle.record.specs.Whole.{whole}
 use Rattle.record.specs.declared.Record.{Record}
 use Rattle.record.proofs.MemberLaws.{foundable-facts}
 use Rattle.record.proofs.WholeFacts.{whole-good}
 use Rattle.record.proofs.LentLaws.{lent_of}
 use Rattle.record.proofs.RoundTrip.{record-restored}
-use Rattle.visit.specs.Output.{followedBy}
+use Rattle.visit.specs.Output.{followed_by}
 use Rattle.station.specs.Answer.{is_taken}
 use Rattle.station.specs.Reply.{Reply, refused, asks, done_of, answered, Does}
 use Rattle.station.specs.EveryReply.{Good}
-use Rattle.station.specs.Found.{founded, foundedOn}
+use Rattle.station.specs.Found.{founded, founded_on}
 use Rattle.station.specs.Post.{posted}
 use Rattle.station.specs.Resend.{resent}
 use Rattle.station.specs.Arrive.{arrived}
-use Rattle.station.specs.Over.{foundIn, postOver, arriveOver, resendOver}
+use Rattle.station.specs.Over.{found_in, post_over, arrive_over, resend_over}
 use Rattle.station.specs.inner.Value.{lent_by, settled}
 use Rattle.station.specs.declared.refusal.Refusal.{Refusal}
 use Rattle.station.specs.declared.refusal.Refusal.TheVariants.{NoRoom, NotWhole, MemberCount, BadIds, NotAmong, BadRing}
@@ -44,13 +44,13 @@ use Rattle.station.proofs.ArrivedGood.{arrived-good}
 
 -- the bytes that a call by value lends: at first all are zero
 abbrev zeros : List ℕ
-zeros = replicate recordSize 0
+zeros = replicate record_size 0
 
-zeros-long : length zeros ≡ recordSize
-zeros-long = length-replicate {A = ℕ} recordSize 0
+zeros-long : length zeros ≡ record_size
+zeros-long = length-replicate {A = ℕ} record_size 0
 
-no-members : (recordOf zeros).log.count ≡ 0
-unfolding recordOf logOf word_at word_of
+no-members : (record_of zeros).log.count ≡ 0
+unfolding record_of log_of word_at word_of
 no-members = refl
 
 zeros-none : whole (lent zeros) ≡ false
@@ -68,7 +68,7 @@ module _ (r : Record) (a : Answer) (s' : List ℕ) where
   stays : (why : Refusal) → a ≡ Refused why → settled r a s' ≡ record { answer = Refused why; rec = r }
   stays why e = rw (e, no-taken why)
 
-  left : is_taken a ≡ true → settled r a s' ≡ record { answer = a; rec = recordOf s' }
+  left : is_taken a ≡ true → settled r a s' ≡ record { answer = a; rec = record_of s' }
   left t = rw t
 
 -- ---- posting, arrival and resending
@@ -77,26 +77,26 @@ module _ (call : Record → Reply) (why : Refusal)
     (none : (r : Record) → whole r ≡ false → call r ≡ refused r why)
     (good : (r : Record) → Good r (call r))
     (r : Record) (s : List ℕ) (lends : s ≡ lent_by r zeros) where
-  own-bytes : whole r ≡ true → s ≡ recordBytes r
-  own-bytes w = lends ∙ rw (w, drop_of_length-le zeros {i = recordSize} (omega (arith, zeros-long)), append-nil)
+  own-bytes : whole r ≡ true → s ≡ record_bytes r
+  own-bytes w = lends ∙ rw (w, drop_of_length-le zeros {i = record_size} (omega (arith, zeros-long)), append-nil)
 
   there : whole r ≡ true → lent s ≡ r
-  there w = let restored = record-restored r w in ap lent (own-bytes w) ∙ lent_of (recordBytes r) restored.1 ∙ restored.0
+  there w = let restored = record-restored r w in ap lent (own-bytes w) ∙ lent_of (record_bytes r) restored.1 ∙ restored.0
 
   pub by_value : (a : Answer) (s' frames frames' deliveries deliveries' : List ℕ)
       → Does answered (call (lent s)) a s s' frames frames' deliveries deliveries'
-      → (settled r a s' ≡ done_of (call r)) × (frames' ≡ followedBy (call r).frames frames) × (deliveries' ≡ followedBy (call r).deliveries deliveries)
+      → (settled r a s' ≡ done_of (call r)) × (frames' ≡ followed_by (call r).frames frames) × (deliveries' ≡ followed_by (call r).deliveries deliveries)
   by_value a s' frames frames' deliveries deliveries' does = go (whole r) refl
     where
-      go : (b : Bool) → whole r ≡ b → (settled r a s' ≡ done_of (call r)) × (frames' ≡ followedBy (call r).frames frames) × (deliveries' ≡ followedBy (call r).deliveries deliveries)
+      go : (b : Bool) → whole r ≡ b → (settled r a s' ≡ done_of (call r)) × (frames' ≡ followed_by (call r).frames frames) × (deliveries' ≡ followed_by (call r).deliveries deliveries)
       go true w =
           let d : Does answered (call r) a s s' frames frames' deliveries deliveries' = subst (λ (x : Record). Does answered (call x) a s s' frames frames' deliveries deliveries') (there w) does in
           (taken-or-not d (is_taken (call r).answer) refl, d.frames, d.deliveries)
         where
           taken-or-not : Does answered (call r) a s s' frames frames' deliveries deliveries' → (t : Bool) → is_taken (call r).answer ≡ t → settled r a s' ≡ done_of (call r)
           taken-or-not d true t =
-              let long : length s ≡ recordSize = ap length (own-bytes w) ∙ (record-restored r w).1 in
-              let bytes : s' ≡ recordBytes (call r).rec = d.station ∙ rw (t, drop_of_length-le s {i = recordSize} (omega (arith, long)), append-nil) in
+              let long : length s ≡ record_size = ap length (own-bytes w) ∙ (record-restored r w).1 in
+              let bytes : s' ≡ record_bytes (call r).rec = d.station ∙ rw (t, drop_of_length-le s {i = record_size} (omega (arith, long)), append-nil) in
               let back = (record-restored (call r).rec ((good r).2 w)).0 in
               left r a s' (ap is_taken d.answers ∙ t) ∙ rw (d.answers, bytes, back) refl
           taken-or-not d false t =
@@ -110,25 +110,25 @@ module _ (call : Record → Reply) (why : Refusal)
 
 module _ (r : Record) (s s' : List ℕ) (lends : s ≡ lent_by r zeros) (a : Answer) where
   pub posted-by-value : (service : ℕ) (content : List ℕ)
-      → Does answered (postOver s service content) a s s' [] [] [] []
+      → Does answered (post_over s service content) a s s' [] [] [] []
       → settled r a s' ≡ done_of (posted r service content)
-  unfolding postOver
+  unfolding post_over
   posted-by-value service content does =
       (by_value (λ q. posted q service content) NotWhole (λ q e. posted-not-whole q service content e) (λ q. posted-good q service content) r s lends a s' [] [] [] [] does).0
 
   pub arrived-by-value : (frame frames frames' deliveries deliveries' : List ℕ)
-      → Does answered (arriveOver s frame (length frames) (length deliveries)) a s s' frames frames' deliveries deliveries'
+      → Does answered (arrive_over s frame (length frames) (length deliveries)) a s s' frames frames' deliveries deliveries'
       → (settled r a s' ≡ done_of (arrived r frame (length frames) (length deliveries)))
-      × (frames' ≡ followedBy (arrived r frame (length frames) (length deliveries)).frames frames)
-      × (deliveries' ≡ followedBy (arrived r frame (length frames) (length deliveries)).deliveries deliveries)
-  unfolding arriveOver
+      × (frames' ≡ followed_by (arrived r frame (length frames) (length deliveries)).frames frames)
+      × (deliveries' ≡ followed_by (arrived r frame (length frames) (length deliveries)).deliveries deliveries)
+  unfolding arrive_over
   arrived-by-value frame frames frames' deliveries deliveries' does =
       by_value (λ q. arrived q frame (length frames) (length deliveries)) _ (λ q e. arrived-not-whole q frame (length frames) (length deliveries) e) (λ q. arrived-good q frame (length frames) (length deliveries)) r s lends a s' frames frames' deliveries deliveries' does
 
   pub resent-by-value : (frames frames' : List ℕ)
-      → Does answered (resendOver s (length frames)) a s s' frames frames' [] []
-      → (settled r a s' ≡ done_of (resent r (length frames))) × (frames' ≡ followedBy (resent r (length frames)).frames frames)
-  unfolding resendOver
+      → Does answered (resend_over s (length frames)) a s s' frames frames' [] []
+      → (settled r a s' ≡ done_of (resent r (length frames))) × (frames' ≡ followed_by (resent r (length frames)).frames frames)
+  unfolding resend_over
   resent-by-value frames frames' does =
       let d = by_value (λ q. resent q (length frames)) _ (λ q e. resent-not-whole q (length frames) e) (λ q. resent-good q (length frames)) r s lends a s' frames frames' [] [] does in
       (d.0, d.1)
@@ -149,36 +149,36 @@ module _ (r q : Record) where
   unfolding founded
   founded-alike room ids own ring =
       ask-alike room NoRoom _ _
-      (ask-alike (membersCounted ids) MemberCount _ _
-      (ask-alike (idsFollow ids) BadIds _ _
-      (ask-alike (ownAmong ids own) NotAmong _ _
-      (ask-alike (ringInRange ring) BadRing _ _ (record { answer = refl; frames = refl; rec = λ t. refl })))))
+      (ask-alike (members_counted ids) MemberCount _ _
+      (ask-alike (ids_follow ids) BadIds _ _
+      (ask-alike (own_among ids own) NotAmong _ _
+      (ask-alike (ring_in_range ring) BadRing _ _ (record { answer = refl; frames = refl; rec = λ t. refl })))))
 
-in-room : (ids : List ℕ) (own ring room : ℕ) → foundIn zeros ids own ring room ≡ founded noRecord (leb shortestToken room) ids own ring
-unfolding foundIn
+in-room : (ids : List ℕ) (own ring room : ℕ) → found_in zeros ids own ring room ≡ founded no_record (leb shortest_token room) ids own ring
+unfolding found_in
 in-room ids own ring room =
-    let long : leb recordSize (length zeros) ≡ true = le-leb recordSize (length zeros) (omega (arith, zeros-long)) in
-    ap (λ (b : Bool). founded noRecord (b && leb shortestToken room) ids own ring) long
+    let long : leb record_size (length zeros) ≡ true = le-leb record_size (length zeros) (omega (arith, zeros-long)) in
+    ap (λ (b : Bool). founded no_record (b && leb shortest_token room) ids own ring) long
 
 pub founded-by-value : (r : Record) (ids : List ℕ) (own ring : ℕ) (a : Answer) (s' token token' : List ℕ)
-    → Does answered (foundIn zeros ids own ring (length token)) a zeros s' token token' [] []
-    → (settled r a s' ≡ done_of (foundedOn r (length token) ids own ring)) × (token' ≡ followedBy (foundedOn r (length token) ids own ring).frames token)
+    → Does answered (found_in zeros ids own ring (length token)) a zeros s' token token' [] []
+    → (settled r a s' ≡ done_of (founded_on r (length token) ids own ring)) × (token' ≡ followed_by (founded_on r (length token) ids own ring).frames token)
 founded-by-value r ids own ring a s' token token' does =
-    let fits = leb shortestToken (length token) in
-    let d : Does answered (founded noRecord fits ids own ring) a zeros s' token token' [] [] = subst (λ (x : Reply). Does answered x a zeros s' token token' [] []) (in-room ids own ring (length token)) does in
-    let same = founded-alike noRecord r fits ids own ring in
-    (go d same (is_taken (founded r fits ids own ring).answer) refl, d.frames ∙ ap (λ (x : List ℕ). followedBy x token) same.frames)
+    let fits = leb shortest_token (length token) in
+    let d : Does answered (founded no_record fits ids own ring) a zeros s' token token' [] [] = subst (λ (x : Reply). Does answered x a zeros s' token token' [] []) (in-room ids own ring (length token)) does in
+    let same = founded-alike no_record r fits ids own ring in
+    (go d same (is_taken (founded r fits ids own ring).answer) refl, d.frames ∙ ap (λ (x : List ℕ). followed_by x token) same.frames)
   where
-    go : Does answered (founded noRecord (leb shortestToken (length token)) ids own ring) a zeros s' token token' [] []
-        → Alike (founded noRecord (leb shortestToken (length token)) ids own ring) (founded r (leb shortestToken (length token)) ids own ring)
-        → (t : Bool) → is_taken (founded r (leb shortestToken (length token)) ids own ring).answer ≡ t → settled r a s' ≡ done_of (foundedOn r (length token) ids own ring)
+    go : Does answered (founded no_record (leb shortest_token (length token)) ids own ring) a zeros s' token token' [] []
+        → Alike (founded no_record (leb shortest_token (length token)) ids own ring) (founded r (leb shortest_token (length token)) ids own ring)
+        → (t : Bool) → is_taken (founded r (leb shortest_token (length token)) ids own ring).answer ≡ t → settled r a s' ≡ done_of (founded_on r (length token) ids own ring)
     go d same true t =
-        let yes : is_taken (founded noRecord (leb shortestToken (length token)) ids own ring).answer ≡ true = ap is_taken same.answer ∙ t in
-        let bytes : s' ≡ recordBytes (founded noRecord (leb shortestToken (length token)) ids own ring).rec = d.station ∙ rw (yes, drop_of_length-le zeros {i = recordSize} (omega (arith, zeros-long)), append-nil) in
-        let says : a ≡ (founded r (leb shortestToken (length token)) ids own ring).answer = d.answers ∙ same.answer in
-        let whole-one = founded-taken-whole r (leb shortestToken (length token)) ids own ring t in
-        let back = (record-restored (founded r (leb shortestToken (length token)) ids own ring).rec whole-one).0 in
+        let yes : is_taken (founded no_record (leb shortest_token (length token)) ids own ring).answer ≡ true = ap is_taken same.answer ∙ t in
+        let bytes : s' ≡ record_bytes (founded no_record (leb shortest_token (length token)) ids own ring).rec = d.station ∙ rw (yes, drop_of_length-le zeros {i = record_size} (omega (arith, zeros-long)), append-nil) in
+        let says : a ≡ (founded r (leb shortest_token (length token)) ids own ring).answer = d.answers ∙ same.answer in
+        let whole-one = founded-taken-whole r (leb shortest_token (length token)) ids own ring t in
+        let back = (record-restored (founded r (leb shortest_token (length token)) ids own ring).rec whole-one).0 in
         left r a s' (ap is_taken says ∙ t) ∙ rw (says, bytes, same.rec yes, back) refl
     go d same false t =
-        let no = not_taken (founded r (leb shortestToken (length token)) ids own ring).answer t in
-        stays r a s' no.0 (d.answers ∙ same.answer ∙ no.1) ∙ sym (ap done_of ((founded-good r (leb shortestToken (length token)) ids own ring).0 no.0 no.1))
+        let no = not_taken (founded r (leb shortest_token (length token)) ids own ring).answer t in
+        stays r a s' no.0 (d.answers ∙ same.answer ∙ no.1) ∙ sym (ap done_of ((founded-good r (leb shortest_token (length token)) ids own ring).0 no.0 no.1))

@@ -11,15 +11,15 @@ use lib.Dec.{leb, eqb}
 use lib.Seq.{take_at}
 use Rattle.words.specs.Run.{words}
 use Rattle.words.proofs.RunLaws.{length-words}
-use Rattle.frames.specs.Layout.{shortestToken}
-use Rattle.record.specs.Size.{mostMembers}
-use Rattle.record.specs.Layout.{recordSize}
-use Rattle.record.specs.Lent.{noRecord}
-use Rattle.record.specs.Members.{membersCounted}
+use Rattle.frames.specs.Layout.{shortest_token}
+use Rattle.record.specs.Size.{most_members}
+use Rattle.record.specs.Layout.{record_size}
+use Rattle.record.specs.Lent.{no_record}
+use Rattle.record.specs.Members.{members_counted}
 use Rattle.record.specs.declared.Record.{Record}
 use Rattle.station.specs.Found.{founded}
-use Rattle.station.specs.Over.{ids_in, foundIn, foundOver}
-use Rattle.station.specs.inner.Value.{listedCount}
+use Rattle.station.specs.Over.{ids_in, found_in, found_over}
+use Rattle.station.specs.inner.Value.{listed_count}
 
 -- ---- the list of members
 
@@ -33,14 +33,14 @@ ids-odd s odd = rw odd
 
 -- the ids that are read, and those that the bytes list: the same, or refused alike
 pub data Listed (s : List ℕ) : Type 0 where
-  same : ids_in s ≡ words 2 (listedCount s) s → Listed s
-  refused-alike : membersCounted (ids_in s) ≡ false → membersCounted (words 2 (listedCount s) s) ≡ false → Listed s
+  same : ids_in s ≡ words 2 (listed_count s) s → Listed s
+  refused-alike : members_counted (ids_in s) ≡ false → members_counted (words 2 (listed_count s) s) ≡ false → Listed s
 
 listed : (s : List ℕ) → Listed s
 unfolding words
-listed s = go (eqb (length s % 2) 0) (leb (length s / 2) mostMembers) refl refl
+listed s = go (eqb (length s % 2) 0) (leb (length s / 2) most_members) refl refl
   where
-    go : (even few : Bool) → eqb (length s % 2) 0 ≡ even → leb (length s / 2) mostMembers ≡ few → Listed s
+    go : (even few : Bool) → eqb (length s % 2) 0 ≡ even → leb (length s / 2) most_members ≡ few → Listed s
     go true true e f = same (ids-even s e ∙ rw (e, f))
     go true false e f =
         let long : length (words 2 (length s / 2) s) ≡ length s / 2 = length-words 2 (length s / 2) s in
@@ -48,7 +48,7 @@ listed s = go (eqb (length s % 2) 0) (leb (length s / 2) mostMembers) refl refl
     go false few e f = same (ids-odd s e ∙ rw e)
 
 -- so founding by either is the same
-pub same-founding : (r : Record) (room : Bool) (s : List ℕ) (own ring : ℕ) → founded r room (ids_in s) own ring ≡ founded r room (words 2 (listedCount s) s) own ring
+pub same-founding : (r : Record) (room : Bool) (s : List ℕ) (own ring : ℕ) → founded r room (ids_in s) own ring ≡ founded r room (words 2 (listed_count s) s) own ring
 unfolding founded
 same-founding r room s own ring =
     elim (listed s) [
@@ -56,9 +56,9 @@ same-founding r room s own ring =
       | refused-alike e f ↦ rw (e, f)
     ]
 
-pub over-listed : (s members ids : List ℕ) (n own ring room : ℕ) → n ≡ listedCount members → ids ≡ words 2 n members → foundOver s members own ring room ≡ foundIn s ids own ring room
-unfolding foundIn
-over-listed s members ids n own ring room counts are = same-founding noRecord _ members own ring ∙ ap (λ (xs : List ℕ). founded noRecord (leb recordSize (length s) && leb shortestToken room) xs own ring) (sym (are ∙ ap (λ k. words 2 k members) counts))
+pub over-listed : (s members ids : List ℕ) (n own ring room : ℕ) → n ≡ listed_count members → ids ≡ words 2 n members → found_over s members own ring room ≡ found_in s ids own ring room
+unfolding found_in
+over-listed s members ids n own ring room counts are = same-founding no_record _ members own ring ∙ ap (λ (xs : List ℕ). founded no_record (leb record_size (length s) && leb shortest_token room) xs own ring) (sym (are ∙ ap (λ k. words 2 k members) counts))
 
 -- the part of the array that was read
 pub ids-read : (s ids rest : List ℕ) (n : ℕ) → ids ≡ words 2 n s ++ rest → take (n - 0) ids ≡ words 2 n s
@@ -66,20 +66,20 @@ ids-read s ids rest n e = rw (e, sub-zero) (take_at (words 2 n s) rest n (length
 
 -- as the code counts them
 module _ (s : List ℕ) where
-  pub count-odd : (length s ≡ 2 * (length s / 2) → ⊥) → 0 ≡ listedCount s
+  pub count-odd : (length s ≡ 2 * (length s / 2) → ⊥) → 0 ≡ listed_count s
   count-odd odd = rw (ne_eqb (length s % 2) 0 (λ e. odd (omega arith)))
 
-  pub count-many : mostMembers < length s / 2 → 0 ≡ listedCount s
-  count-many many = rw (lt-leb (length s / 2) mostMembers many, and-false)
+  pub count-many : most_members < length s / 2 → 0 ≡ listed_count s
+  count-many many = rw (lt-leb (length s / 2) most_members many, and-false)
 
-  pub count-even : length s ≡ 2 * (length s / 2) → length s / 2 ≤ mostMembers → length s / 2 ≡ listedCount s
-  count-even even few = rw (eq-eqb (length s % 2) 0 (omega arith), le-leb (length s / 2) mostMembers few)
+  pub count-even : length s ≡ 2 * (length s / 2) → length s / 2 ≤ most_members → length s / 2 ≡ listed_count s
+  count-even even few = rw (eq-eqb (length s % 2) 0 (omega arith), le-leb (length s / 2) most_members few)
 
 -- they are there, and have their places
-pub count_fits : (s : List ℕ) → (2 * listedCount s ≤ length s) × (listedCount s ≤ mostMembers)
-count_fits s = go (eqb (length s % 2) 0) (leb (length s / 2) mostMembers) refl
+pub count_fits : (s : List ℕ) → (2 * listed_count s ≤ length s) × (listed_count s ≤ most_members)
+count_fits s = go (eqb (length s % 2) 0) (leb (length s / 2) most_members) refl
   where
-    go : (even few : Bool) → leb (length s / 2) mostMembers ≡ few → (2 * cond (even && few) (length s / 2) 0 ≤ length s) × (cond (even && few) (length s / 2) 0 ≤ mostMembers)
-    go true true f = (omega arith, leb-true (length s / 2) mostMembers f)
+    go : (even few : Bool) → leb (length s / 2) most_members ≡ few → (2 * cond (even && few) (length s / 2) 0 ≤ length s) × (cond (even && few) (length s / 2) 0 ≤ most_members)
+    go true true f = (omega arith, leb-true (length s / 2) most_members f)
     go true false f = (omega arith, omega arith)
     go false few f = (omega arith, omega arith)

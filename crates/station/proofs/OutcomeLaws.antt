@@ -3,8 +3,8 @@ use Prim.Native.Nat.{ℕ}
 use mathlib.Core.Path.{◌≡◌, refl, sym, ap, ◌∙◌}
 use mathlib.Core.Bool.{cond}
 use lib.Dec.{eqb}
-use Rattle.station.specs.Refusal.{refusalNumber}
-use Rattle.station.specs.Answer.{outcomeOf, OutcomeFixes}
+use Rattle.station.specs.Refusal.{refusal_number}
+use Rattle.station.specs.Answer.{outcome_of, OutcomeFixes}
 use Rattle.station.specs.declared.refusal.Refusal.{Refusal}
 use Rattle.station.specs.declared.refusal.Refusal.TheVariants.{NoRoom, NotWhole, MemberCount, BadIds, NotAmong, BadRing, LongContent, OtherService, PostsFull, WrongLength, OtherKind, Malformed, OtherRing, NotMember, OtherAddressee, OldToken, LastToken, BelowHeld, NothingToResend}
 use Rattle.station.specs.declared.answer.Answer.{Answer}
@@ -34,7 +34,7 @@ named n =
     (cond (eqb n 18) BelowHeld
     NothingToResend)))))))))))))))))
 
-named-number : (why : Refusal) → named (refusalNumber why) ≡ why
+named-number : (why : Refusal) → named (refusal_number why) ≡ why
 unfolding named
 named-number NoRoom = refl
 named-number NotWhole = refl
@@ -68,7 +68,7 @@ answer_of o =
     (cond (eqb o.outcome 6) (Accepted o.frames o.deliveries o.deaf)
     (Resent o.frames)))))))
 
-answer_back : (a : Answer) → answer_of (outcomeOf a) ≡ a
+answer_back : (a : Answer) → answer_of (outcome_of a) ≡ a
 unfolding answer_of
 answer_back (Refused why) = ap (λ (w : Refusal). Refused w) (named-number why)
 answer_back Founded = refl

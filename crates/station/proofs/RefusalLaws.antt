@@ -1,11 +1,11 @@
 -- No refusal's number is 0.
 use mathlib.Core.Path.{◌≡◌}
 use native.Mathlib.Omega.{arith}
-use Rattle.station.specs.Refusal.{refusalNumber}
+use Rattle.station.specs.Refusal.{refusal_number}
 use Rattle.station.specs.declared.refusal.Refusal.{Refusal}
 use Rattle.station.specs.declared.refusal.Refusal.TheVariants.{NoRoom, NotWhole, MemberCount, BadIds, NotAmong, BadRing, LongContent, OtherService, PostsFull, WrongLength, OtherKind, Malformed, OtherRing, NotMember, OtherAddressee, OldToken, LastToken, BelowHeld, NothingToResend}
 
-pub some_number : (why : Refusal) → refusalNumber why ≡ 0 → ⊥
+pub some_number : (why : Refusal) → refusal_number why ≡ 0 → ⊥
 some_number NoRoom e = omega arith
 some_number NotWhole e = omega arith
 some_number MemberCount e = omega arith

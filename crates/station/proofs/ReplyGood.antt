@@ -8,26 +8,26 @@ use native.Mathlib.Omega.{arith}
 use lib.ListN.{length}
 use lib.Dec.{leb, ltb}
 use lib.Seq.{length-take-le}
-use Rattle.frames.specs.Layout.{mostService, mostContent}
-use Rattle.frames.specs.Token.{tokenBytes}
-use Rattle.record.specs.Size.{mostPosts}
-use Rattle.record.specs.Members.{membersCounted, idsFollow, ownAmong, ringInRange, foundable}
+use Rattle.frames.specs.Layout.{most_service, most_content}
+use Rattle.frames.specs.Token.{token_bytes}
+use Rattle.record.specs.Size.{most_posts}
+use Rattle.record.specs.Members.{members_counted, ids_follow, own_among, ring_in_range, foundable}
 use Rattle.record.specs.Posts.{waiting}
 use Rattle.record.specs.Fresh.{fresh}
-use Rattle.record.specs.Turn.{mayResend, remembered}
-use Rattle.record.specs.Whole.{postsInRange, whole}
+use Rattle.record.specs.Turn.{may_resend, remembered}
+use Rattle.record.specs.Whole.{posts_in_range, whole}
 use Rattle.record.specs.declared.Record.{Record}
 use Rattle.record.proofs.RangeFacts.{posts-range}
 use Rattle.record.proofs.FreshLaws.{fresh-whole}
 use Rattle.record.proofs.PostLaws.{post-sizes, waiting-queued}
 use Rattle.record.proofs.PostsWhole.{queued-in-range, queued-unused-zero}
 use Rattle.record.proofs.WholeFacts.{whole-good, good-whole}
-use Rattle.station.specs.Refusal.{refusalNumber}
-use Rattle.station.specs.Answer.{outcomeOf, is_taken}
+use Rattle.station.specs.Refusal.{refusal_number}
+use Rattle.station.specs.Answer.{outcome_of, is_taken}
 use Rattle.station.specs.Reply.{Reply, refused, asks}
-use Rattle.visit.specs.Output.{mostFrames}
-use Rattle.station.specs.Found.{firstToken, founded}
-use Rattle.station.specs.Post.{withPost, posted}
+use Rattle.visit.specs.Output.{most_frames}
+use Rattle.station.specs.Found.{first_token, founded}
+use Rattle.station.specs.Post.{with_post, posted}
 use Rattle.station.specs.Resend.{resent}
 use Rattle.station.specs.EveryReply.{Counted, KeepsWhole, Good, FoundedGood, PostedGood, ResentGood, FoundedWhole, PostedOne}
 use Rattle.station.specs.declared.refusal.Refusal.{Refusal}
@@ -45,27 +45,27 @@ module _ (P : Reply → Type 0) (r : Record) (refuses : (why : Refusal) → P (r
   ask question why rest = asked P r question why rest (refuses why)
 
   pub founded-either : (room : Bool) (ids : List ℕ) (own ring : ℕ)
-      → (foundable ids own ring ≡ true → P (record { answer = Founded; rec = fresh ids own ring; frames = tokenBytes (firstToken ids ring); deliveries = [] }))
+      → (foundable ids own ring ≡ true → P (record { answer = Founded; rec = fresh ids own ring; frames = token_bytes (first_token ids ring); deliveries = [] }))
       → P (founded r room ids own ring)
   unfolding founded
   founded-either room ids own ring taken =
       ask room NoRoom _ (λ enough.
-      ask (membersCounted ids) MemberCount _ (λ counted.
-      ask (idsFollow ids) BadIds _ (λ follow.
-      ask (ownAmong ids own) NotAmong _ (λ among.
-      ask (ringInRange ring) BadRing _ (λ ranged.
+      ask (members_counted ids) MemberCount _ (λ counted.
+      ask (ids_follow ids) BadIds _ (λ follow.
+      ask (own_among ids own) NotAmong _ (λ among.
+      ask (ring_in_range ring) BadRing _ (λ ranged.
       taken (foundable-when ids own ring counted follow among ranged))))))
 
   pub posted-either : (service : ℕ) (content : List ℕ)
-      → (whole r ≡ true → length content ≤ mostContent → service ≤ mostService → r.posts.count < mostPosts
-      → P (record { answer = Posted; rec = withPost r service content; frames = []; deliveries = [] }))
+      → (whole r ≡ true → length content ≤ most_content → service ≤ most_service → r.posts.count < most_posts
+      → P (record { answer = Posted; rec = with_post r service content; frames = []; deliveries = [] }))
       → P (posted r service content)
   unfolding posted
   posted-either service content taken =
       ask (whole r) NotWhole _ (λ w.
-      ask (leb (length content) mostContent) LongContent _ (λ short.
-      ask (leb service mostService) OtherService _ (λ known.
-      ask (ltb r.posts.count mostPosts) PostsFull _ (λ room.
+      ask (leb (length content) most_content) LongContent _ (λ short.
+      ask (leb service most_service) OtherService _ (λ known.
+      ask (ltb r.posts.count most_posts) PostsFull _ (λ room.
       taken w (leb-true _ _ short) (leb-true _ _ known) (ltb-true _ _ room)))))
 
   pub resent-either : (room : ℕ)
@@ -73,9 +73,9 @@ module _ (P : Reply → Type 0) (r : Record) (refuses : (why : Refusal) → P (r
       → P (resent r room)
   unfolding resent
   resent-either room taken =
-      ask (leb mostFrames room) NoRoom _ (λ enough.
+      ask (leb most_frames room) NoRoom _ (λ enough.
       ask (whole r) NotWhole _ (λ w.
-      ask (mayResend r.turn) NothingToResend _ (λ leave.
+      ask (may_resend r.turn) NothingToResend _ (λ leave.
       taken w)))
 
 -- ---- refusals are good; an answer with an outcome is no refusal
@@ -83,10 +83,10 @@ module _ (P : Reply → Type 0) (r : Record) (refuses : (why : Refusal) → P (r
 pub refused-good : (r : Record) (why : Refusal) → Good r (refused r why)
 refused-good r why = ((λ again e. ap (λ (a : Answer). record { answer = a; rec = r; frames = []; deliveries = [] }) e), (refl, refl), (λ w. w))
 
-no-refusal : (a : Answer) (why : Refusal) → 0 < (outcomeOf a).outcome → a ≡ Refused why → ⊥
-no-refusal a why some e = let none : (outcomeOf a).outcome ≡ 0 = ap (λ (b : Answer). (outcomeOf b).outcome) e in omega arith
+no-refusal : (a : Answer) (why : Refusal) → 0 < (outcome_of a).outcome → a ≡ Refused why → ⊥
+no-refusal a why some e = let none : (outcome_of a).outcome ≡ 0 = ap (λ (b : Answer). (outcome_of b).outcome) e in omega arith
 
-pub taken-good : (r : Record) (reply : Reply) → 0 < (outcomeOf reply.answer).outcome → Counted reply → KeepsWhole r reply → Good r reply
+pub taken-good : (r : Record) (reply : Reply) → 0 < (outcome_of reply.answer).outcome → Counted reply → KeepsWhole r reply → Good r reply
 taken-good r reply some counted keeps = ((λ why e. absurd (no-refusal reply.answer why some e)), counted, keeps)
 
 -- ---- founding
@@ -111,7 +111,7 @@ pub founded-taken-whole : (r : Record) (room : Bool) (ids : List ℕ) (own ring 
 founded-taken-whole r room ids own ring =
     founded-either (λ reply. is_taken reply.answer ≡ true → whole reply.rec ≡ true)
     r
-    (λ why t. absurd (some_number why (eqb-true (refusalNumber why) 0 t)))
+    (λ why t. absurd (some_number why (eqb-true (refusal_number why) 0 t)))
     room
     ids
     own
@@ -120,14 +120,14 @@ founded-taken-whole r room ids own ring =
 
 -- ---- posting
 
-module _ (r : Record) (service : ℕ) (content : List ℕ) (w : whole r ≡ true) (short : length content ≤ mostContent) (room : r.posts.count < mostPosts) where
-  posts-good : postsInRange r.posts ≡ true
+module _ (r : Record) (service : ℕ) (content : List ℕ) (w : whole r ≡ true) (short : length content ≤ most_content) (room : r.posts.count < most_posts) where
+  posts-good : posts_in_range r.posts ≡ true
   posts-good = (whole-good r w).posts
 
-  pub with-post-whole : service ≤ mostService → whole (withPost r service content) ≡ true
+  pub with-post-whole : service ≤ most_service → whole (with_post r service content) ≡ true
   with-post-whole known =
       let g = whole-good r w in
-      good-whole (withPost r service content)
+      good-whole (with_post r service content)
       (record {
         log = g.log;
         turn = g.turn;
@@ -137,7 +137,7 @@ module _ (r : Record) (service : ℕ) (content : List ℕ) (w : whole r ≡ true
         panel = g.panel;
       })
 
-  with-post-one : waiting (withPost r service content).posts ≡ waiting r.posts ++ (record { service = service; content = content } ∷ [])
+  with-post-one : waiting (with_post r service content).posts ≡ waiting r.posts ++ (record { service = service; content = content } ∷ [])
   with-post-one = waiting-queued r.posts service content (post-sizes r.posts (posts-range r.posts posts-good)) room short
 
 pub posted-good : PostedGood

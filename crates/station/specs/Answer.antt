@@ -1,8 +1,8 @@
 -- An answer in document 01's terms: the question that is answered 'no', what happened, the output counts in bytes, and the id in the
 -- notice 'deaf'. [document 01, Questions at the door]
 use Rattle.std.specs.Prelude.{ℕ, ◌≡◌, Bool, eqb}
-use Rattle.frames.specs.Layout.{shortestToken}
-use Rattle.station.specs.Refusal.{refusalNumber}
+use Rattle.frames.specs.Layout.{shortest_token}
+use Rattle.station.specs.Refusal.{refusal_number}
 use Rattle.station.specs.declared.answer.Answer.{Answer}
 use Rattle.station.specs.declared.answer.Answer.TheVariants.{Refused, Founded, Posted, Kept, Had, Ahead, Accepted, Resent}
 use Rattle.station.specs.declared.answer.Outcome.{Outcome}
@@ -11,20 +11,20 @@ use Rattle.station.specs.declared.answer.Outcome.{Outcome}
 abbrev pub happened : ℕ → ℕ → ℕ → ℕ → Outcome
 happened outcome frames deliveries deaf = record { refusal = 0; outcome = outcome; frames = frames; deliveries = deliveries; deaf = deaf }
 
-abbrev pub outcomeOf : Answer → Outcome
-outcomeOf (Refused why) = record { refusal = refusalNumber why; outcome = 0; frames = 0; deliveries = 0; deaf = 0 }
-outcomeOf Founded = happened 1 shortestToken 0 0
-outcomeOf Posted = happened 2 0 0 0
-outcomeOf (Kept n) = happened 3 0 n 0
-outcomeOf (Had n) = happened 4 0 n 0
-outcomeOf (Ahead n) = happened 5 0 n 0
-outcomeOf (Accepted frames deliveries deaf) = happened 6 frames deliveries deaf
-outcomeOf (Resent n) = happened 7 n 0 0
+abbrev pub outcome_of : Answer → Outcome
+outcome_of (Refused why) = record { refusal = refusal_number why; outcome = 0; frames = 0; deliveries = 0; deaf = 0 }
+outcome_of Founded = happened 1 shortest_token 0 0
+outcome_of Posted = happened 2 0 0 0
+outcome_of (Kept n) = happened 3 0 n 0
+outcome_of (Had n) = happened 4 0 n 0
+outcome_of (Ahead n) = happened 5 0 n 0
+outcome_of (Accepted frames deliveries deaf) = happened 6 frames deliveries deaf
+outcome_of (Resent n) = happened 7 n 0 0
 
 -- a call was taken where no question was answered 'no'
 abbrev pub is_taken : Answer → Bool
-is_taken a = eqb (outcomeOf a).refusal 0
+is_taken a = eqb (outcome_of a).refusal 0
 
 -- the outcome fixes the answer: no two answers have the same numbers
 abbrev pub OutcomeFixes : Type 0
-OutcomeFixes = (a b : Answer) → outcomeOf a ≡ outcomeOf b → a ≡ b
+OutcomeFixes = (a b : Answer) → outcome_of a ≡ outcome_of b → a ≡ b

@@ -1,7 +1,7 @@
 -- Arrival of a frame. [document 01, Questions at the door: 1, 2, 10 to 18]
 use Rattle.std.specs.Prelude.{ℕ, ◌&&◌, List, [], leb, ltb, eqb}
-use Rattle.frames.specs.Number.{mostNumber}
-use Rattle.frames.specs.Message.{contentOf}
+use Rattle.frames.specs.Number.{most_number}
+use Rattle.frames.specs.Message.{content_of}
 use Rattle.frames.specs.Read.{read_of}
 use Rattle.frames.specs.declared.refusal.Refusal.{Refusal as Unread}
 use Rattle.frames.specs.declared.refusal.Refusal.TheVariants.{NoRoom as NoRoomToWrite, WrongLength as ReadLength, OtherKind as ReadKind, Malformed as ReadLayout}
@@ -9,16 +9,16 @@ use Rattle.frames.specs.declared.message.Message.{Message}
 use Rattle.frames.specs.declared.token.Token.{Token}
 use Rattle.frames.specs.declared.reader.Reading.{Reading}
 use Rattle.frames.specs.declared.reader.Answer.TheVariants.{Refused as Unreadable, IsMessage, IsToken}
-use Rattle.record.specs.Members.{isMember}
-use Rattle.record.specs.Ring.{current, ids, thisRing, tokenMembers}
+use Rattle.record.specs.Members.{is_member}
+use Rattle.record.specs.Ring.{current, ids, this_ring, token_members}
 use Rattle.record.specs.Whole.{whole}
 use Rattle.record.specs.declared.Record.{Record}
 use Rattle.station.specs.Reply.{Reply, refused, asks}
-use Rattle.visit.specs.Output.{mostFrames, mostDeliveries}
+use Rattle.visit.specs.Output.{most_frames, most_deliveries}
 use Rattle.visit.specs.Deliver.{joined}
-use Rattle.visit.specs.Message.{heardOf, recHeard, handedHeard}
-use Rattle.visit.specs.Visit.{Visit, rec', written, handed, visitedOf}
-use Rattle.visit.specs.Acceptable.{coversHeld, visit}
+use Rattle.visit.specs.Message.{heard_of, rec_heard, handed_heard}
+use Rattle.visit.specs.Visit.{Visit, rec', written, handed, visited_of}
+use Rattle.visit.specs.Acceptable.{covers_held, visit}
 use Rattle.visit.specs.declared.hearing.Hearing.{Hearing}
 use Rattle.visit.specs.declared.hearing.Hearing.TheVariants.{WasHad, IsAhead, IsKept}
 use Rattle.station.specs.declared.answer.Answer.{Answer}
@@ -27,67 +27,67 @@ use Rattle.station.specs.declared.refusal.Refusal.{Refusal}
 use Rattle.station.specs.declared.refusal.Refusal.TheVariants.{NoRoom, NotWhole, WrongLength, OtherKind, Malformed, OtherRing, NotMember, OtherAddressee, OldToken, LastToken, BelowHeld}
 
 -- 10 to 12 are the reader's. It never answers that there is no room: the enum has that for the writer
-abbrev pub readerRefusal : Unread → Refusal
-readerRefusal NoRoomToWrite = NoRoom
-readerRefusal ReadLength = WrongLength
-readerRefusal ReadKind = OtherKind
-readerRefusal ReadLayout = Malformed
+abbrev pub reader_refusal : Unread → Refusal
+reader_refusal NoRoomToWrite = NoRoom
+reader_refusal ReadLength = WrongLength
+reader_refusal ReadKind = OtherKind
+reader_refusal ReadLayout = Malformed
 
 -- a message's arrival: had, ahead or kept, and how many bytes are delivered
-abbrev pub heardAnswer : Hearing → ℕ → Answer
-heardAnswer WasHad n = Had n
-heardAnswer IsAhead n = Ahead n
-heardAnswer IsKept n = Kept n
+abbrev pub heard_answer : Hearing → ℕ → Answer
+heard_answer WasHad n = Had n
+heard_answer IsAhead n = Ahead n
+heard_answer IsKept n = Kept n
 
-unfoldable pub messageHeard : Record → Message → List ℕ → Reply
-messageHeard r m content =
+unfoldable pub message_heard : Record → Message → List ℕ → Reply
+message_heard r m content =
     record {
-      answer = heardAnswer (heardOf r m content).how (heardOf r m content).size;
-      rec = recHeard r m content;
+      answer = heard_answer (heard_of r m content).how (heard_of r m content).size;
+      rec = rec_heard r m content;
       frames = [];
-      deliveries = handedHeard r m content;
+      deliveries = handed_heard r m content;
     }
 
 -- a token's: how many bytes are written and delivered, and the notice 'deaf'
 unfoldable pub accepted : Visit → Reply
 accepted v =
     record {
-      answer = Accepted (visitedOf v).frames (visitedOf v).deliveries (visitedOf v).deaf;
+      answer = Accepted (visited_of v).frames (visited_of v).deliveries (visited_of v).deaf;
       rec = rec' v;
       frames = joined (written v);
       deliveries = handed v;
     }
 
 -- 13 and 14, of a message
-unfoldable pub messageArrived : Record → Message → List ℕ → Reply
-messageArrived r m content =
-    asks r (thisRing (current r).ring.0 (ids (current r)) m.header) OtherRing
-    (asks r (isMember (ids (current r)) m.sender) NotMember
-    (messageHeard r m content))
+unfoldable pub message_arrived : Record → Message → List ℕ → Reply
+message_arrived r m content =
+    asks r (this_ring (current r).ring.0 (ids (current r)) m.header) OtherRing
+    (asks r (is_member (ids (current r)) m.sender) NotMember
+    (message_heard r m content))
 
 -- 13 to 18, of a token. Figure 3 drops a token whose token_seq is not above my_token_seq: 16
-unfoldable pub tokenArrived : Record → Token → Reply
-tokenArrived r t =
-    asks r (thisRing (current r).ring.0 (ids (current r)) t.header) OtherRing
-    (asks r (tokenMembers (ids (current r)) t) NotMember
+unfoldable pub token_arrived : Record → Token → Reply
+token_arrived r t =
+    asks r (this_ring (current r).ring.0 (ids (current r)) t.header) OtherRing
+    (asks r (token_members (ids (current r)) t) NotMember
     (asks r (eqb t.addressee r.own) OtherAddressee
     (asks r (ltb r.turn.number.0 t.number.0) OldToken
-    (asks r (ltb t.number.0 mostNumber) LastToken
-    (asks r (coversHeld (current r) t.highest.0) BelowHeld
+    (asks r (ltb t.number.0 most_number) LastToken
+    (asks r (covers_held (current r) t.highest.0) BelowHeld
     (accepted (visit r t)))))))
 
 -- by what the reader says
-abbrev pub frameArrived : Record → List ℕ → Reading → Reply
-frameArrived r frame reading =
+abbrev pub frame_arrived : Record → List ℕ → Reading → Reply
+frame_arrived r frame reading =
     elim reading.answer [
-      | Unreadable why ↦ refused r (readerRefusal why)
-      | IsMessage m ↦ messageArrived r m (contentOf frame)
-      | IsToken ↦ tokenArrived r reading.token
+      | Unreadable why ↦ refused r (reader_refusal why)
+      | IsMessage m ↦ message_arrived r m (content_of frame)
+      | IsToken ↦ token_arrived r reading.token
     ]
 
 -- `frames` and `deliveries`: the lengths of the two buffers
 unfoldable pub arrived : Record → List ℕ → ℕ → ℕ → Reply
 arrived r frame frames deliveries =
-    asks r (leb mostFrames frames && leb mostDeliveries deliveries) NoRoom
+    asks r (leb most_frames frames && leb most_deliveries deliveries) NoRoom
     (asks r (whole r) NotWhole
-    (frameArrived r frame (read_of frame)))
+    (frame_arrived r frame (read_of frame)))

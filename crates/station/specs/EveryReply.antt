@@ -3,7 +3,7 @@ use Rattle.std.specs.Prelude.{ℕ, ◌≡◌, Bool, true, List, [], ◌∷◌, �
 use Rattle.record.specs.Posts.{waiting}
 use Rattle.record.specs.Whole.{whole}
 use Rattle.record.specs.declared.Record.{Record}
-use Rattle.station.specs.Answer.{outcomeOf}
+use Rattle.station.specs.Answer.{outcome_of}
 use Rattle.station.specs.Reply.{Reply, refused}
 use Rattle.station.specs.Found.{founded}
 use Rattle.station.specs.Post.{posted}
@@ -11,13 +11,13 @@ use Rattle.station.specs.Resend.{resent}
 use Rattle.station.specs.declared.refusal.Refusal.{Refusal}
 use Rattle.station.specs.declared.answer.Answer.TheVariants.{Refused, Founded, Posted}
 
--- a reply that refuses has the record as it was and no bytes, so `followedBy` leaves every lent byte
+-- a reply that refuses has the record as it was and no bytes, so `followed_by` leaves every lent byte
 abbrev pub LeavesAll : Record → Reply → Type 0
 LeavesAll r reply = (why : Refusal) → reply.answer ≡ Refused why → reply ≡ refused r why
 
 -- the output counts are those of the reply's bytes
 abbrev pub Counted : Reply → Type 0
-Counted reply = ((outcomeOf reply.answer).frames ≡ length reply.frames) × ((outcomeOf reply.answer).deliveries ≡ length reply.deliveries)
+Counted reply = ((outcome_of reply.answer).frames ≡ length reply.frames) × ((outcome_of reply.answer).deliveries ≡ length reply.deliveries)
 
 -- a whole record stays whole
 abbrev pub KeepsWhole : Record → Reply → Type 0

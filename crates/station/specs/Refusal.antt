@@ -3,23 +3,23 @@ use Rattle.std.specs.Prelude.{ℕ}
 use Rattle.station.specs.declared.refusal.Refusal.{Refusal}
 use Rattle.station.specs.declared.refusal.Refusal.TheVariants.{NoRoom, NotWhole, MemberCount, BadIds, NotAmong, BadRing, LongContent, OtherService, PostsFull, WrongLength, OtherKind, Malformed, OtherRing, NotMember, OtherAddressee, OldToken, LastToken, BelowHeld, NothingToResend}
 
-abbrev pub refusalNumber : Refusal → ℕ
-refusalNumber NoRoom = 1
-refusalNumber NotWhole = 2
-refusalNumber MemberCount = 3
-refusalNumber BadIds = 4
-refusalNumber NotAmong = 5
-refusalNumber BadRing = 6
-refusalNumber LongContent = 7
-refusalNumber OtherService = 8
-refusalNumber PostsFull = 9
-refusalNumber WrongLength = 10
-refusalNumber OtherKind = 11
-refusalNumber Malformed = 12
-refusalNumber OtherRing = 13
-refusalNumber NotMember = 14
-refusalNumber OtherAddressee = 15
-refusalNumber OldToken = 16
-refusalNumber LastToken = 17
-refusalNumber BelowHeld = 18
-refusalNumber NothingToResend = 19
+abbrev pub refusal_number : Refusal → ℕ
+refusal_number NoRoom = 1
+refusal_number NotWhole = 2
+refusal_number MemberCount = 3
+refusal_number BadIds = 4
+refusal_number NotAmong = 5
+refusal_number BadRing = 6
+refusal_number LongContent = 7
+refusal_number OtherService = 8
+refusal_number PostsFull = 9
+refusal_number WrongLength = 10
+refusal_number OtherKind = 11
+refusal_number Malformed = 12
+refusal_number OtherRing = 13
+refusal_number NotMember = 14
+refusal_number OtherAddressee = 15
+refusal_number OldToken = 16
+refusal_number LastToken = 17
+refusal_number BelowHeld = 18
+refusal_number NothingToResend = 19

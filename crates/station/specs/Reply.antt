@@ -1,9 +1,9 @@
 -- What a call leaves: its answer, the record, the bytes for the cable and the bytes delivered. [document 01, Questions at the door]
 use Rattle.std.specs.Prelude.{ℕ, ◌≡◌, Bool, cond, List, [], ◌++◌, drop}
-use Rattle.record.specs.Layout.{recordSize}
-use Rattle.record.specs.Bytes.{recordBytes}
+use Rattle.record.specs.Layout.{record_size}
+use Rattle.record.specs.Bytes.{record_bytes}
 use Rattle.record.specs.declared.Record.{Record}
-use Rattle.visit.specs.Output.{followedBy}
+use Rattle.visit.specs.Output.{followed_by}
 use Rattle.station.specs.Answer.{is_taken}
 use Rattle.station.specs.declared.refusal.Refusal.{Refusal}
 use Rattle.station.specs.declared.answer.Answer.{Answer}
@@ -32,8 +32,8 @@ done_of reply = record { answer = reply.answer; rec = reply.rec }
 -- ---- of a call on a record in lent bytes
 
 -- the station's bytes afterwards: those of the record, followed by what stood after them; a refusal leaves every byte as it was
-abbrev pub stationAfter : Reply → List ℕ → List ℕ
-stationAfter reply s = cond (is_taken reply.answer) (recordBytes reply.rec ++ drop recordSize s) s
+abbrev pub station_after : Reply → List ℕ → List ℕ
+station_after reply s = cond (is_taken reply.answer) (record_bytes reply.rec ++ drop record_size s) s
 
 -- the answer as it is
 abbrev pub answered : Answer → Answer
@@ -43,6 +43,6 @@ answered a = a
 -- after, and the same of the buffers for frames and for deliveries. A call without such a buffer says [] []
 pub record Does {A : Type 0} (said : Answer → A) (reply : Reply) (answer : A) (s s' f f' d d' : List ℕ) : Type 0 where
   pub answers : answer ≡ said reply.answer
-  pub station : s' ≡ stationAfter reply s
-  pub frames : f' ≡ followedBy reply.frames f
-  pub deliveries : d' ≡ followedBy reply.deliveries d
+  pub station : s' ≡ station_after reply s
+  pub frames : f' ≡ followed_by reply.frames f
+  pub deliveries : d' ≡ followed_by reply.deliveries d

@@ -1,6 +1,6 @@
 // What a call answers, and the same in document 01's numbers.
 ghost use Rattle.std.specs.Prelude.{◌≡◌};
-ghost use Rattle.station.specs.Answer.{happened, outcomeOf, is_taken};
+ghost use Rattle.station.specs.Answer.{happened, outcome_of, is_taken};
 
 use crate::refusal;
 use crate::refusal::Refusal;
@@ -64,7 +64,7 @@ pub fn is_taken(a: Answer) -> bool
 
 // Ruled out: a count with a refusal; a refusal that reads like an outcome.
 pub fn outcome_of(a: Answer) -> Outcome
-    ensures { result ≡ outcomeOf a }
+    ensures { result ≡ outcome_of a }
 {
     match a {
         Answer::Refused(why) => Outcome {

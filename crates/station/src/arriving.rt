@@ -1,13 +1,13 @@
 // Arrival: the questions at the door, and what the frame is. In lent bytes, and by value.
 ghost use Rattle.std.specs.Prelude.{◌≡◌, true, [], ◌≤◌, length};
-ghost use Rattle.frames.specs.Message.{messageFollows};
-ghost use Rattle.frames.specs.Token.{tokenFollows};
+ghost use Rattle.frames.specs.Message.{message_follows};
+ghost use Rattle.frames.specs.Token.{token_follows};
 ghost use Rattle.frames.specs.Read.{read_of};
-ghost use Rattle.record.specs.inner.Head.{recordIn};
-ghost use Rattle.visit.specs.Output.{followedBy, mostFrames, mostDeliveries};
+ghost use Rattle.record.specs.inner.Head.{record_in};
+ghost use Rattle.visit.specs.Output.{followed_by, most_frames, most_deliveries};
 ghost use Rattle.station.specs.Reply.{done_of, answered, Does};
-ghost use Rattle.station.specs.Arrive.{readerRefusal, heardAnswer, messageArrived, tokenArrived, frameArrived, arrived};
-ghost use Rattle.station.specs.Over.{arriveOver};
+ghost use Rattle.station.specs.Arrive.{reader_refusal, heard_answer, message_arrived, token_arrived, frame_arrived, arrived};
+ghost use Rattle.station.specs.Over.{arrive_over};
 ghost use Rattle.station.specs.inner.Value.{HeadIn};
 
 use crate::answer::Answer;
@@ -20,7 +20,7 @@ use visit::{Heard, Hearing};
 
 // 10 to 12 are the reader's.
 fn reader_refusal(why: frames::Refusal) -> Refusal
-    ensures { result ≡ readerRefusal why }
+    ensures { result ≡ reader_refusal why }
 {
     match why {
         frames::Refusal::NoRoom => Refusal::NoRoom,
@@ -32,7 +32,7 @@ fn reader_refusal(why: frames::Refusal) -> Refusal
 
 // A message's arrival: had, ahead or kept.
 fn heard_answer(h: Heard) -> Answer
-    ensures { result ≡ heardAnswer h.how h.size }
+    ensures { result ≡ heard_answer h.how h.size }
 {
     let how = h.how;
     match how {
@@ -50,8 +50,8 @@ fn message_arrived(
     content: &[u8],
     deliveries: &mut [u8],
 ) -> Answer
-    requires { HeadIn h s.old × (messageFollows m content.now ≡ true) × (mostDeliveries ≤ length deliveries.old) }
-    ensures { Does answered (messageArrived (recordIn h s.old) m content.now) result
+    requires { HeadIn h s.old × (message_follows m content.now ≡ true) × (most_deliveries ≤ length deliveries.old) }
+    ensures { Does answered (message_arrived (record_in h s.old) m content.now) result
         s.old s.new [] [] deliveries.old deliveries.new }
 {
     let members = h.log.members;
@@ -76,10 +76,10 @@ fn token_arrived(
     deliveries: &mut [u8],
 ) -> Answer
     requires { HeadIn h s.old
-        × (tokenFollows t ≡ true)
-        × (mostFrames ≤ length frames.old)
-        × (mostDeliveries ≤ length deliveries.old) }
-    ensures { Does answered (tokenArrived (recordIn h s.old) t) result
+        × (token_follows t ≡ true)
+        × (most_frames ≤ length frames.old)
+        × (most_deliveries ≤ length deliveries.old) }
+    ensures { Does answered (token_arrived (record_in h s.old) t) result
         s.old s.new frames.old frames.new
         deliveries.old deliveries.new }
 {
@@ -120,8 +120,8 @@ fn frame_arrived(
     frames: &mut [u8],
     deliveries: &mut [u8],
 ) -> Answer
-    requires { HeadIn h s.old × (mostFrames ≤ length frames.old) × (mostDeliveries ≤ length deliveries.old) }
-    ensures { Does answered (frameArrived (recordIn h s.old) frame.now (read_of frame.now)) result
+    requires { HeadIn h s.old × (most_frames ≤ length frames.old) × (most_deliveries ≤ length deliveries.old) }
+    ensures { Does answered (frame_arrived (record_in h s.old) frame.now (read_of frame.now)) result
         s.old s.new frames.old frames.new
         deliveries.old deliveries.new }
 {
@@ -140,7 +140,7 @@ fn frame_arrived(
 // Ruled out: every message 'ahead'; a record written with a refusal.
 pub fn arrive_in(s: &mut [u8], frame: &[u8], frames: &mut [u8], deliveries: &mut [u8]) -> Answer
     ensures { Does answered
-        (arriveOver s.old frame.now (length frames.old) (length deliveries.old)) result
+        (arrive_over s.old frame.now (length frames.old) (length deliveries.old)) result
         s.old s.new frames.old frames.new
         deliveries.old deliveries.new }
 {
@@ -157,10 +157,10 @@ pub fn arrive_in(s: &mut [u8], frame: &[u8], frames: &mut [u8], deliveries: &mut
 // Ruled out: every message 'ahead'; tokens passed along untouched.
 pub fn arrive_step(rec: Record, frame: &[u8], frames: &mut [u8], deliveries: &mut [u8]) -> Done
     ensures { (result ≡ done_of (arrived rec frame.now (length frames.old) (length deliveries.old)))
-        × (frames.new ≡ followedBy
+        × (frames.new ≡ followed_by
         (arrived rec frame.now (length frames.old) (length deliveries.old)).frames
         frames.old)
-        × (deliveries.new ≡ followedBy
+        × (deliveries.new ≡ followed_by
         (arrived rec frame.now (length frames.old) (length deliveries.old)).deliveries
         deliveries.old) }
 {

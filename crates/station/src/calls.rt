@@ -1,8 +1,8 @@
 // The public calls: the record is lent and changed there. Each is its step by value, the record stored
 // back. A refusal's reply has the record as it was and no bytes, so it alters nothing.
 ghost use Rattle.std.specs.Prelude.{◌≡◌, length};
-ghost use Rattle.visit.specs.Output.{followedBy};
-ghost use Rattle.station.specs.Found.{foundedOn};
+ghost use Rattle.visit.specs.Output.{followed_by};
+ghost use Rattle.station.specs.Found.{founded_on};
 ghost use Rattle.station.specs.Post.{posted};
 ghost use Rattle.station.specs.Resend.{resent};
 ghost use Rattle.station.specs.Arrive.{arrived};
@@ -16,10 +16,10 @@ use record::Record;
 // the own id.
 pub fn found(rec: &mut Record, ids: &[u16], own: u16, ring: RingNumber, token: &mut [u8]) -> Answer
     ensures { (rec.new
-        ≡ (foundedOn rec.old (length token.old) ids.now own ring.0).rec)
-        × (result ≡ (foundedOn rec.old (length token.old) ids.now own ring.0).answer)
-        × (token.new ≡ followedBy
-        (foundedOn rec.old (length token.old) ids.now own ring.0).frames
+        ≡ (founded_on rec.old (length token.old) ids.now own ring.0).rec)
+        × (result ≡ (founded_on rec.old (length token.old) ids.now own ring.0).answer)
+        × (token.new ≡ followed_by
+        (founded_on rec.old (length token.old) ids.now own ring.0).frames
         token.old) }
 {
     let done = founding::found_step(*rec, ids, own, ring, token);
@@ -43,10 +43,10 @@ pub fn arrive(rec: &mut Record, frame: &[u8], frames: &mut [u8], deliveries: &mu
         ≡ (arrived rec.old frame.now (length frames.old) (length deliveries.old)).rec)
         × (result
         ≡ (arrived rec.old frame.now (length frames.old) (length deliveries.old)).answer)
-        × (frames.new ≡ followedBy
+        × (frames.new ≡ followed_by
         (arrived rec.old frame.now (length frames.old) (length deliveries.old)).frames
         frames.old)
-        × (deliveries.new ≡ followedBy
+        × (deliveries.new ≡ followed_by
         (arrived rec.old frame.now (length frames.old) (length deliveries.old)).deliveries
         deliveries.old) }
 {
@@ -59,7 +59,7 @@ pub fn arrive(rec: &mut Record, frame: &[u8], frames: &mut [u8], deliveries: &mu
 pub fn resend(rec: &mut Record, frames: &mut [u8]) -> Answer
     ensures { (rec.new ≡ (resent rec.old (length frames.old)).rec)
         × (result ≡ (resent rec.old (length frames.old)).answer)
-        × (frames.new ≡ followedBy
+        × (frames.new ≡ followed_by
         (resent rec.old (length frames.old)).frames
         frames.old) }
 {

@@ -1,6 +1,6 @@
 // A call on a record by value: the record's bytes, the call on them, and what it leaves: its answer and the record.
 ghost use Rattle.std.specs.Prelude.{◌≡◌, length};
-ghost use Rattle.record.specs.Layout.{recordSize};
+ghost use Rattle.record.specs.Layout.{record_size};
 ghost use Rattle.station.specs.inner.Value.{lent_by, settled};
 
 use crate::answer;
@@ -33,7 +33,7 @@ pub fn answer_of(done: Done) -> Answer
 // The bytes of a whole record. Of one that isn't whole nothing is written: zeros are not whole either, so that a
 // call on them is refused as a call on the record is.
 pub fn lend(rec: Record, bytes: &mut [u8])
-    requires { length bytes.old ≡ recordSize }
+    requires { length bytes.old ≡ record_size }
     ensures { bytes.new ≡ lent_by rec bytes.old }
 {
     if record::is_whole(rec) {
@@ -43,7 +43,7 @@ pub fn lend(rec: Record, bytes: &mut [u8])
 
 // What a call on these bytes leaves of the record by value: where it was refused, the record as it was.
 pub fn settle(rec: Record, answer: Answer, bytes: &[u8]) -> Done
-    requires { length bytes.now ≡ recordSize }
+    requires { length bytes.now ≡ record_size }
     ensures { result ≡ settled rec answer bytes.now }
 {
     if !answer::is_taken(answer) {

@@ -1,13 +1,13 @@
 // Founding: in lent bytes, by a list of ids or of bytes; and by value.
 ghost use Rattle.std.specs.Prelude.{◌≡◌, true, [], ◌≤◌, length};
-ghost use Rattle.frames.specs.Layout.{shortestToken};
-ghost use Rattle.frames.specs.Token.{tokenBytes};
+ghost use Rattle.frames.specs.Layout.{shortest_token};
+ghost use Rattle.frames.specs.Token.{token_bytes};
 ghost use Rattle.record.specs.Members.{foundable};
-ghost use Rattle.visit.specs.Output.{followedBy};
+ghost use Rattle.visit.specs.Output.{followed_by};
 ghost use Rattle.station.specs.Reply.{done_of, answered, Does};
-ghost use Rattle.station.specs.Found.{firstToken, foundedOn};
-ghost use Rattle.station.specs.Over.{foundIn, foundOver};
-ghost use Rattle.station.specs.inner.Value.{listedCount};
+ghost use Rattle.station.specs.Found.{first_token, founded_on};
+ghost use Rattle.station.specs.Over.{found_in, found_over};
+ghost use Rattle.station.specs.inner.Value.{listed_count};
 
 use crate::answer::Answer;
 use crate::done;
@@ -17,7 +17,7 @@ use frames::{Blocker, Header, MessageNumber, RingNumber, Token, TokenNumber};
 use record::Record;
 
 fn first_token(ids: &[u16], ring: RingNumber) -> Token
-    ensures { result ≡ firstToken ids.now ring.0 }
+    ensures { result ≡ first_token ids.now ring.0 }
 {
     let representative = record::representative_of(ids);
     Token {
@@ -39,8 +39,8 @@ fn first_token(ids: &[u16], ring: RingNumber) -> Token
 
 // The ring's first token to the front.
 fn put_first_token(ids: &[u16], own: u16, ring: RingNumber, token: &mut [u8])
-    requires { (foundable ids.now own ring.0 ≡ true) × (shortestToken ≤ length token.old) }
-    ensures { token.new ≡ followedBy (tokenBytes (firstToken ids.now ring.0)) token.old }
+    requires { (foundable ids.now own ring.0 ≡ true) × (shortest_token ≤ length token.old) }
+    ensures { token.new ≡ followed_by (token_bytes (first_token ids.now ring.0)) token.old }
 {
     let t = first_token(ids, ring);
     frames::put_token(t, token);
@@ -55,7 +55,7 @@ pub fn found_ids_in(
     ring: RingNumber,
     token: &mut [u8],
 ) -> Answer
-    ensures { Does answered (foundIn s.old ids.now own ring.0 (length token.old)) result
+    ensures { Does answered (found_in s.old ids.now own ring.0 (length token.old)) result
         s.old s.new token.old token.new [] [] }
 {
     if s.len() < record::RECORD_SIZE {
@@ -84,7 +84,7 @@ pub fn found_ids_in(
 // How many ids a list of members has; bytes that are no list (an odd number, or too many ids) have none, and
 // founding by none is refused as founding by them.
 fn id_count(members: &[u8]) -> usize
-    ensures { result ≡ listedCount members.now }
+    ensures { result ≡ listed_count members.now }
 {
     let n = members.len() / 2;
     if members.len() != 2 * n {
@@ -105,7 +105,7 @@ pub fn found_in(
     ring: RingNumber,
     token: &mut [u8],
 ) -> Answer
-    ensures { Does answered (foundOver s.old members.now own ring.0 (length token.old)) result
+    ensures { Does answered (found_over s.old members.now own ring.0 (length token.old)) result
         s.old s.new token.old token.new [] [] }
 {
     let mut ids = [0u16; record::MOST_MEMBERS];
@@ -117,9 +117,9 @@ pub fn found_in(
 // Founds a station of a ring and hands out the ring's first token. Ruled out: the members sorted; a
 // token addressed to the own id.
 pub fn found_step(rec: Record, ids: &[u16], own: u16, ring: RingNumber, token: &mut [u8]) -> Done
-    ensures { (result ≡ done_of (foundedOn rec (length token.old) ids.now own ring.0))
-        × (token.new ≡ followedBy
-        (foundedOn rec (length token.old) ids.now own ring.0).frames
+    ensures { (result ≡ done_of (founded_on rec (length token.old) ids.now own ring.0))
+        × (token.new ≡ followed_by
+        (founded_on rec (length token.old) ids.now own ring.0).frames
         token.old) }
 {
     let mut bytes = [0u8; record::RECORD_SIZE];

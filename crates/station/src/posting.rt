@@ -2,7 +2,7 @@
 ghost use Rattle.std.specs.Prelude.{◌≡◌, []};
 ghost use Rattle.station.specs.Reply.{done_of, answered, Does};
 ghost use Rattle.station.specs.Post.{posted};
-ghost use Rattle.station.specs.Over.{postOver};
+ghost use Rattle.station.specs.Over.{post_over};
 
 use crate::answer::Answer;
 use crate::done;
@@ -12,7 +12,7 @@ use record::Record;
 
 // 2 and 7 to 9; then one post more waits. Ruled out: 9 with an empty queue; a record of another length taken.
 pub fn post_in(s: &mut [u8], service: u16, content: &[u8]) -> Answer
-    ensures { Does answered (postOver s.old service content.now) result
+    ensures { Does answered (post_over s.old service content.now) result
         s.old s.new [] [] [] [] }
 {
     if !record::is_whole_in(s) {

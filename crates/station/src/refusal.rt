@@ -1,6 +1,6 @@
 // Why a call is refused: the question that was answered 'no'.
 ghost use Rattle.std.specs.Prelude.{◌≡◌};
-ghost use Rattle.station.specs.Refusal.{refusalNumber};
+ghost use Rattle.station.specs.Refusal.{refusal_number};
 
 #[derive(Drop)]
 pub enum Refusal {
@@ -46,7 +46,7 @@ pub enum Refusal {
 
 // The question's number in document 01. Ruled out: one number for all; 7 and 8 changed over.
 pub fn refusal_number(r: Refusal) -> u16
-    ensures { result ≡ refusalNumber r }
+    ensures { result ≡ refusal_number r }
 {
     match r {
         Refusal::NoRoom => 1,

@@ -1,9 +1,9 @@
 // Resending: from lent bytes, and by value.
 ghost use Rattle.std.specs.Prelude.{◌≡◌, [], length};
-ghost use Rattle.visit.specs.Output.{followedBy};
+ghost use Rattle.visit.specs.Output.{followed_by};
 ghost use Rattle.station.specs.Reply.{done_of, answered, Does};
 ghost use Rattle.station.specs.Resend.{resent};
-ghost use Rattle.station.specs.Over.{resendOver};
+ghost use Rattle.station.specs.Over.{resend_over};
 
 use crate::answer::Answer;
 use crate::done::Done;
@@ -14,7 +14,7 @@ use record::Record;
 // 1, 2 and 19; then the remembered token is written out. Ruled out: another token written; 2 where the buffer is
 // too small already.
 pub fn resend_in(s: &[u8], frames: &mut [u8]) -> Answer
-    ensures { Does answered (resendOver s.now (length frames.old)) result
+    ensures { Does answered (resend_over s.now (length frames.old)) result
         s.now s.now frames.old frames.new [] [] }
 {
     if !room::resending_fits(frames.len()) {
@@ -34,7 +34,7 @@ pub fn resend_in(s: &[u8], frames: &mut [u8]) -> Answer
 // Ruled out: another token written; the leave ended by resending.
 pub fn resend_step(rec: Record, frames: &mut [u8]) -> Done
     ensures { (result ≡ done_of (resent rec (length frames.old)))
-        × (frames.new ≡ followedBy
+        × (frames.new ≡ followed_by
         (resent rec (length frames.old)).frames
         frames.old) }
 {

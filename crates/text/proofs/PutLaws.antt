@@ -9,25 +9,25 @@ use borrow.Author.Tests.{le-leb, lt-leb}
 use lib.ListN.{length, get_or, take, length-append}
 use lib.Seq.{sets, length-sets, take-suc, take_all}
 use Rattle.words.proofs.StoreLaws.{sets-append}
-use Rattle.text.specs.Text.{Text, Filled, filled, piece, putPiece, put, each, Whole}
+use Rattle.text.specs.Text.{Text, Filled, filled, piece, put_piece, put, each, Whole}
 
 -- ---- one piece
 
 module _ (out : List ℕ) (at : ℕ) (bytes : List ℕ) where
   pub put-beyond : length out < at → filled (length out) out ≡ put (piece bytes) (filled at out)
-  unfolding put putPiece
+  unfolding put put_piece
   put-beyond h =
       let end : min at (length out) ≡ length out = omega arith in
       rw (lt-leb (at + length bytes) (length out) (omega arith), end)
 
   pub put-left-out : at ≤ length out → length out - at < length bytes → filled at out ≡ put (piece bytes) (filled at out)
-  unfolding put putPiece
+  unfolding put put_piece
   put-left-out h full =
       let here : min at (length out) ≡ at = omega arith in
       rw (lt-leb (at + length bytes) (length out) (omega arith), here)
 
   pub put-stored : (out' : List ℕ) → at + length bytes ≤ length out → out' ≡ sets out at bytes → filled (at + length bytes) out' ≡ put (piece bytes) (filled at out)
-  unfolding put putPiece
+  unfolding put put_piece
   put-stored out' room e = rw (le-leb (at + length bytes) (length out) room, e)
 
 -- ---- several
@@ -35,7 +35,7 @@ module _ (out : List ℕ) (at : ℕ) (bytes : List ℕ) where
 put-append : (a b : Text) (f : Filled) → put (a ++ b) f ≡ put b (put a f)
 unfolding put
 put-append [] b f = refl
-put-append (bytes ∷ a) b f = put-append a b (putPiece bytes f)
+put-append (bytes ∷ a) b f = put-append a b (put_piece bytes f)
 
 pub put_then : (a b : Text) (f : Filled) {f₁ f₂ : Filled} → f₁ ≡ put a f → f₂ ≡ put b f₁ → f₂ ≡ put (a ++ b) f
 put_then a b f p q = q ∙ ap (put b) p ∙ sym (put-append a b f)
@@ -44,7 +44,7 @@ put_then a b f p q = q ∙ ap (put b) p ∙ sym (put-append a b f)
 pub put-room : (text : Text) (at : ℕ) (out : List ℕ)
     → at + length (flatten text) ≤ length out
     → put text (filled at out) ≡ filled (at + length (flatten text)) (sets out at (flatten text))
-unfolding put putPiece flatten
+unfolding put put_piece flatten
 put-room [] at out room = rw add-zero
 put-room (bytes ∷ text) at out room =
     let long = length-append bytes (flatten text) in

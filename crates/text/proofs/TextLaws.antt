@@ -8,7 +8,7 @@ use native.Mathlib.Omega.{arith}
 use borrow.Author.Tests.{lt-ltb, le-ltb}
 use lib.ListN.{take}
 use Rattle.io.specs.Digits.{last_digits, IsDigitCount}
-use Rattle.text.specs.Text.{Filled, put, piece, digitsTo, decimal, is_plain, hexadecimal, escapedByte}
+use Rattle.text.specs.Text.{Filled, put, piece, digits_to, decimal, is_plain, hexadecimal, escaped_byte}
 
 -- a number of two digits or more leaves room for one more
 enough : (most n : ℕ) → 10 ≤ n → n < 10 ^ suc most → 1 ≤ most
@@ -16,8 +16,8 @@ enough zero n h room = absurd (omega arith)
 enough (suc most) n h room = omega arith
 
 -- the fewest digits that hold n are its digits
-digits_decimal : (k most n : ℕ) → 1 ≤ most → n < 10 ^ most → IsDigitCount 10 1 n k → last_digits 10 k n ≡ digitsTo most n
-unfolding digitsTo
+digits_decimal : (k most n : ℕ) → 1 ≤ most → n < 10 ^ most → IsDigitCount 10 1 n k → last_digits 10 k n ≡ digits_to most n
+unfolding digits_to
 digits_decimal zero most n h room f = absurd (omega arith)
 digits_decimal (suc k) zero n h room f = absurd (omega arith)
 digits_decimal (suc zero) (suc most) n h room f =
@@ -45,7 +45,7 @@ pub decimal-put : (before : Filled) {after : Filled} (k n : ℕ) (bytes : List �
     → after ≡ put (decimal n) before
 decimal-put before k n bytes h f e p = rw (sub-zero, e, digits_decimal k 10 n (omega arith) (omega arith) f) at p
 
-pub plain-put : (before : Filled) {after : Filled} (b : ℕ) → is_plain b ≡ true → after ≡ put (piece (b ∷ [])) before → after ≡ put (escapedByte b) before
+pub plain-put : (before : Filled) {after : Filled} (b : ℕ) → is_plain b ≡ true → after ≡ put (piece (b ∷ [])) before → after ≡ put (escaped_byte b) before
 plain-put before b e p = rw e p
 
 pub escaped-put : (before : Filled) {after : Filled} (b x y : ℕ)
@@ -53,5 +53,5 @@ pub escaped-put : (before : Filled) {after : Filled} (b x y : ℕ)
     → x ≡ hexadecimal (b / 16)
     → y ≡ hexadecimal (b % 16)
     → after ≡ put (piece (92 ∷ 120 ∷ x ∷ y ∷ [])) before
-    → after ≡ put (escapedByte b) before
+    → after ≡ put (escaped_byte b) before
 escaped-put before b x y e ex ey p = rw e (rw (ex, ey) at p)

@@ -20,13 +20,13 @@ abbrev pub piece : List ℕ → Text
 piece bytes = bytes ∷ []
 
 -- the digits of n, of which there are no more than `most`
-unfoldable pub digitsTo : ℕ → ℕ → List ℕ
-digitsTo zero n = []
-digitsTo (suc most) n = cond (ltb n 10) ((48 + n) ∷ []) (digitsTo most (n / 10) ++ ((48 + n % 10) ∷ []))
+unfoldable pub digits_to : ℕ → ℕ → List ℕ
+digits_to zero n = []
+digits_to (suc most) n = cond (ltb n 10) ((48 + n) ∷ []) (digits_to most (n / 10) ++ ((48 + n % 10) ∷ []))
 
 -- a number of 32 bits
 abbrev pub decimal : ℕ → Text
-decimal n = piece (digitsTo 10 n)
+decimal n = piece (digits_to 10 n)
 
 -- `0` to `9`, then `a` to `f`
 abbrev pub hexadecimal : ℕ → ℕ
@@ -36,8 +36,8 @@ hexadecimal d = cond (ltb d 10) (48 + d) (87 + d)
 abbrev pub is_plain : ℕ → Bool
 is_plain b = leb 32 b && leb b 126 && not (eqb b 34) && not (eqb b 92)
 
-abbrev pub escapedByte : ℕ → Text
-escapedByte b = piece (cond (is_plain b) (b ∷ []) (92 ∷ 120 ∷ hexadecimal (b / 16) ∷ hexadecimal (b % 16) ∷ []))
+abbrev pub escaped_byte : ℕ → Text
+escaped_byte b = piece (cond (is_plain b) (b ∷ []) (92 ∷ 120 ∷ hexadecimal (b / 16) ∷ hexadecimal (b % 16) ∷ []))
 
 -- a text for each, one after another
 unfoldable pub each : (ℕ → Text) → List ℕ → Text
@@ -45,7 +45,7 @@ each f [] = []
 each f (x ∷ xs) = f x ++ each f xs
 
 abbrev pub escaped : List ℕ → Text
-escaped bytes = each escapedByte bytes
+escaped bytes = each escaped_byte bytes
 
 -- ---- putting it
 
@@ -58,8 +58,8 @@ abbrev pub filled : ℕ → List ℕ → Filled
 filled at out = record { at = at; out = out }
 
 -- a piece at the position; one that there is no room for is left out, and a position past the end is the end
-unfoldable pub putPiece : List ℕ → Filled → Filled
-putPiece bytes f =
+unfoldable pub put_piece : List ℕ → Filled → Filled
+put_piece bytes f =
     cond (leb (f.at + length bytes) (length f.out))
     (filled (f.at + length bytes) (sets f.out f.at bytes))
     (filled (min f.at (length f.out)) f.out)
@@ -67,7 +67,7 @@ putPiece bytes f =
 -- piece by piece
 unfoldable pub put : Text → Filled → Filled
 put [] f = f
-put (bytes ∷ text) f = put text (putPiece bytes f)
+put (bytes ∷ text) f = put text (put_piece bytes f)
 
 -- the bytes are put whole
 pub record Whole (out : List ℕ) (at : ℕ) (bytes : List ℕ) (after : ℕ) (out' : List ℕ) : Type 0 where

@@ -1,7 +1,7 @@
 // Text, put into a buffer at a position. Each function answers the position after what it put. A
 // piece that there is no room for is left out.
 ghost use Rattle.std.specs.Prelude.{◌≡◌, ◌<◌};
-ghost use Rattle.text.specs.Text.{filled, put, piece, decimal, is_plain, escapedByte, escaped};
+ghost use Rattle.text.specs.Text.{filled, put, piece, decimal, is_plain, escaped_byte, escaped};
 ghost use Rattle.text.specs.Text.{hexadecimal as Text·hexadecimal};
 
 pub fn put_bytes(out: &mut [u8], at: usize, text: &[u8]) -> usize
@@ -41,7 +41,7 @@ fn hexadecimal(d: u8) -> u8
 
 // A byte as itself, or as \x and two hexadecimal digits.
 fn put_escaped_byte(out: &mut [u8], at: usize, b: u8) -> usize
-    ensures { filled result out.new ≡ put (escapedByte b) (filled at out.old) }
+    ensures { filled result out.new ≡ put (escaped_byte b) (filled at out.old) }
 {
     if is_plain(b) {
         return put_bytes(out, at, &[b]);

@@ -1,9 +1,9 @@
 // The calls for hosts in C: thin functions on numbers and byte slices (a pointer and a length each), the station's
 // calls in lent bytes with their answer in document 01's numbers. include/totem.h declares and documents them.
 ghost use Rattle.std.specs.Prelude.{[], length};
-ghost use Rattle.station.specs.Answer.{outcomeOf};
+ghost use Rattle.station.specs.Answer.{outcome_of};
 ghost use Rattle.station.specs.Reply.{Does};
-ghost use Rattle.station.specs.Over.{foundOver, postOver, arriveOver, resendOver};
+ghost use Rattle.station.specs.Over.{found_over, post_over, arrive_over, resend_over};
 
 use frames::RingNumber;
 use station::Outcome;
@@ -17,7 +17,7 @@ pub extern "C" fn totem_found(
     ring: u32,
     token: &mut [u8],
 ) -> Outcome
-    ensures { Does outcomeOf (foundOver bytes.old members.now own ring (length token.old)) result
+    ensures { Does outcome_of (found_over bytes.old members.now own ring (length token.old)) result
         bytes.old bytes.new token.old token.new [] [] }
 {
     let founded = station::found_in(bytes, members, own, RingNumber(ring), token);
@@ -27,7 +27,7 @@ pub extern "C" fn totem_found(
 // Posting. Ruled out: 9 with an empty queue; a record of another length taken.
 #[unsafe(no_mangle)]
 pub extern "C" fn totem_post(bytes: &mut [u8], service: u16, content: &[u8]) -> Outcome
-    ensures { Does outcomeOf (postOver bytes.old service content.now) result
+    ensures { Does outcome_of (post_over bytes.old service content.now) result
         bytes.old bytes.new [] [] [] [] }
 {
     let posted = station::post_in(bytes, service, content);
@@ -42,8 +42,8 @@ pub extern "C" fn totem_arrive(
     frames: &mut [u8],
     deliveries: &mut [u8],
 ) -> Outcome
-    ensures { Does outcomeOf
-        (arriveOver bytes.old frame.now (length frames.old) (length deliveries.old)) result
+    ensures { Does outcome_of
+        (arrive_over bytes.old frame.now (length frames.old) (length deliveries.old)) result
         bytes.old bytes.new frames.old frames.new
         deliveries.old deliveries.new }
 {
@@ -54,7 +54,7 @@ pub extern "C" fn totem_arrive(
 // Resending. Ruled out: another token written; 2 where the buffer is too small already.
 #[unsafe(no_mangle)]
 pub extern "C" fn totem_resend(bytes: &[u8], frames: &mut [u8]) -> Outcome
-    ensures { Does outcomeOf (resendOver bytes.now (length frames.old)) result
+    ensures { Does outcome_of (resend_over bytes.now (length frames.old)) result
         bytes.now bytes.now frames.old frames.new [] [] }
 {
     let resent = station::resend_in(bytes, frames);

@@ -3,26 +3,26 @@ use mathlib.Core.Path.{◌≡◌, refl}
 use mathlib.Core.Bool.{true}
 use mathlib.Core.List.{flatten}
 use Rattle.words.specs.Word.{word_bytes}
-use Rattle.words.specs.Run.{wordsBytes}
+use Rattle.words.specs.Run.{words_bytes}
 use Rattle.words.specs.Scan.{every}
-use Rattle.frames.specs.Header.{headerBytes}
-use Rattle.frames.specs.Token.{numbersIn, numbered, tokenFixed}
-use Rattle.record.specs.Count.{those, numbersAfter}
+use Rattle.frames.specs.Header.{header_bytes}
+use Rattle.frames.specs.Token.{numbers_in, numbered, token_fixed}
+use Rattle.record.specs.Count.{those, numbers_after}
 use Rattle.record.specs.Panel.{undelivered}
-use Rattle.record.specs.Held.{holds, heldNumbers, heldWith, cleared, clearedFrom, let_go}
-use Rattle.record.specs.Posts.{postsFrom, taken}
-use Rattle.record.specs.Fresh.{freshHeld, membersPlaced, freshLog, freshTurn, freshPosts, fresh}
-use Rattle.visit.specs.Level.{reached, levelOf, raised}
-use Rattle.visit.specs.Deliver.{frameWith, takeWhile, due, delivered}
-use Rattle.visit.specs.Visit.{others, roundAllowance, othersBacklog, share, allowance, requests, repeats, unanswered, newCount, withSent, newNumbers, highest', logNow, setsAru, aru', blocker', stall', safe', missing, requests', broadcasts, round', waits', backlog', nextIn, token', turn', log', rec'}
-use Rattle.visit.specs.trials.Sample.{sendersTo, allPass}
+use Rattle.record.specs.Held.{holds, held_numbers, held_with, cleared, cleared_from, let_go}
+use Rattle.record.specs.Posts.{posts_from, taken}
+use Rattle.record.specs.Fresh.{fresh_held, members_placed, fresh_log, fresh_turn, fresh_posts, fresh}
+use Rattle.visit.specs.Level.{reached, level_of, raised}
+use Rattle.visit.specs.Deliver.{frame_with, take_while, due, delivered}
+use Rattle.visit.specs.Visit.{others, round_allowance, others_backlog, share, allowance, requests, repeats, unanswered, new_count, with_sent, new_numbers, highest', log_now, sets_aru, aru', blocker', stall', safe', missing, requests', broadcasts, round', waits', backlog', next_in, token', turn', log', rec'}
+use Rattle.visit.specs.trials.Sample.{senders_to, all_pass}
 use Rattle.visit.specs.trials.Marks.{marking}
 use Rattle.visit.specs.trials.Shares.{allowing}
 
-pub marks-pass : allPass marking ≡ true
-unfolding flatten word_bytes wordsBytes every headerBytes numbersIn numbered tokenFixed holds heldWith cleared clearedFrom let_go postsFrom taken undelivered heldNumbers freshHeld membersPlaced freshLog freshTurn freshPosts fresh reached levelOf raised frameWith takeWhile due delivered others roundAllowance othersBacklog share allowance those requests repeats unanswered newCount withSent numbersAfter newNumbers highest' logNow setsAru aru' blocker' stall' safe' missing requests' broadcasts round' waits' backlog' nextIn token' turn' log' rec' sendersTo allPass
+pub marks-pass : all_pass marking ≡ true
+unfolding flatten word_bytes words_bytes every header_bytes numbers_in numbered token_fixed holds held_with cleared cleared_from let_go posts_from taken undelivered held_numbers fresh_held members_placed fresh_log fresh_turn fresh_posts fresh reached level_of raised frame_with take_while due delivered others round_allowance others_backlog share allowance those requests repeats unanswered new_count with_sent numbers_after new_numbers highest' log_now sets_aru aru' blocker' stall' safe' missing requests' broadcasts round' waits' backlog' next_in token' turn' log' rec' senders_to all_pass
 marks-pass = refl
 
-pub allowances-pass : allPass allowing ≡ true
-unfolding undelivered heldNumbers freshHeld membersPlaced freshLog freshTurn freshPosts fresh others roundAllowance othersBacklog share allowance allPass
+pub allowances-pass : all_pass allowing ≡ true
+unfolding undelivered held_numbers fresh_held members_placed fresh_log fresh_turn fresh_posts fresh others round_allowance others_backlog share allowance all_pass
 allowances-pass = refl

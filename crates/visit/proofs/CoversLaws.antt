@@ -8,25 +8,25 @@ use native.Mathlib.Decide.{dec_lt}
 use native.Mathlib.Omega.{arith}
 use lib.ListN.{get_or}
 use lib.Dec.{leb, ltb, eqb}
-use Rattle.record.specs.Size.{mostHeld}
-use Rattle.record.specs.Count.{everyFrom}
+use Rattle.record.specs.Size.{most_held}
+use Rattle.record.specs.Count.{every_from}
 use Rattle.record.specs.Held.{place_of, holds}
 use Rattle.record.specs.declared.log.Log.{Log}
-use Rattle.record.proofs.PlaceLaws.{beforeIn, by_place, before-place, held-in-place}
+use Rattle.record.proofs.PlaceLaws.{before_in, by_place, before-place, held-in-place}
 use Rattle.record.proofs.HeldNumbers.{held-within}
-use Rattle.visit.specs.Acceptable.{coversHeld}
+use Rattle.visit.specs.Acceptable.{covers_held}
 
 -- the question of a place, as the code asks
-abbrev pub placeCovered : List ℕ → ℕ → ℕ → ℕ → Bool
-placeCovered senders covered safe i = ltb (beforeIn safe i) covered || eqb (get_or senders i 0) 0
+abbrev pub place_covered : List ℕ → ℕ → ℕ → ℕ → Bool
+place_covered senders covered safe i = ltb (before_in safe i) covered || eqb (get_or senders i 0) 0
 
 not-not : (b : Bool) → not (not b) ≡ b
 not-not true = refl
 not-not false = refl
 
 module _ (l : Log) (highest : ℕ) where
-  pub covers_below : highest < l.level.0 → false ≡ coversHeld l highest
-  unfolding coversHeld
+  pub covers_below : highest < l.level.0 → false ≡ covers_held l highest
+  unfolding covers_held
   covers_below h = rw (lt-leb l.level.0 highest h)
 
   abbrev number : ℕ → ℕ
@@ -40,12 +40,12 @@ module _ (l : Log) (highest : ℕ) where
       ]
 
   -- the number's question is its place's
-  same : (j : ℕ) → j < mostHeld → placeCovered l.held.senders (highest - l.safe.0) l.safe.0 (place_of (number j)) ≡ (leb (number j) highest || not (holds l (number j)))
+  same : (j : ℕ) → j < most_held → place_covered l.held.senders (highest - l.safe.0) l.safe.0 (place_of (number j)) ≡ (leb (number j) highest || not (holds l (number j)))
   same j h = rw (before-place l.safe.0 j h, reached j, held-in-place l j h, not-not)
 
   pub covers-by-place : (good : Bool)
       → l.level.0 ≤ highest
-      → good ≡ everyFrom (placeCovered l.held.senders (highest - l.safe.0) l.safe.0) 0 mostHeld
-      → good ≡ coversHeld l highest
-  unfolding coversHeld
+      → good ≡ every_from (place_covered l.held.senders (highest - l.safe.0) l.safe.0) 0 most_held
+      → good ≡ covers_held l highest
+  unfolding covers_held
   covers-by-place good h e = e ∙ rw (le-leb l.level.0 highest h) (by_place l.safe.0 _ (λ n. leb n highest || not (holds l n)) same ∙ sym (held-within l highest))

@@ -9,7 +9,7 @@ use lib.ListN.{length, take}
 use lib.Dec.{eqb}
 use Rattle.words.specs.Scan.{every, lacks, distinct}
 use Rattle.frames.proofs.Facts.{part}
-use Rattle.record.specs.Count.{those, numbersAfter}
+use Rattle.record.specs.Count.{those, numbers_after}
 use Rattle.visit.specs.Reads.{Each}
 
 -- ---- of any list
@@ -135,25 +135,25 @@ pub record Between (low high n : ℕ) : Type 0 where
   pub above : low < n
   pub upto : n ≤ high
 
-pub after-between : (highest n : ℕ) → Each (Between highest (highest + n)) (numbersAfter highest n)
-unfolding numbersAfter
+pub after-between : (highest n : ℕ) → Each (Between highest (highest + n)) (numbers_after highest n)
+unfolding numbers_after
 after-between highest zero = tt
 after-between highest (suc n) = (
   record { above = omega arith; upto = omega arith },
-  each_map (Between (suc highest) (suc highest + n)) (Between highest (highest + suc n)) (numbersAfter (suc highest) n) (λ x b. record { above = omega (arith, b.above); upto = omega (arith, b.upto) })
+  each_map (Between (suc highest) (suc highest + n)) (Between highest (highest + suc n)) (numbers_after (suc highest) n) (λ x b. record { above = omega (arith, b.above); upto = omega (arith, b.upto) })
       (after-between (suc highest) n),
 )
 
-pub after-length : (highest n : ℕ) → length (numbersAfter highest n) ≡ n
-unfolding numbersAfter
+pub after-length : (highest n : ℕ) → length (numbers_after highest n) ≡ n
+unfolding numbers_after
 after-length highest zero = refl
 after-length highest (suc n) = rw (after-length (suc highest) n)
 
-pub after-distinct : (highest n : ℕ) → Distinct (numbersAfter highest n)
-unfolding numbersAfter
+pub after-distinct : (highest n : ℕ) → Distinct (numbers_after highest n)
+unfolding numbers_after
 after-distinct highest zero = tt
 after-distinct highest (suc n) = (
-  each_map (Between (suc highest) (suc highest + n)) (Other (suc highest)) (numbersAfter (suc highest) n) (λ x b. other-of (suc highest) x (λ q. omega (arith, b.above)))
+  each_map (Between (suc highest) (suc highest + n)) (Other (suc highest)) (numbers_after (suc highest) n) (λ x b. other-of (suc highest) x (λ q. omega (arith, b.above)))
       (after-between (suc highest) n),
   after-distinct (suc highest) n,
 )

@@ -9,24 +9,24 @@ use native.Mathlib.Omega.{arith}
 use lib.ListN.{length, take, replicate, length-take, length-replicate}
 use lib.Dec.{ltb, eqb}
 use Rattle.words.specs.Scan.{lacks}
-use Rattle.frames.specs.Number.{mostNumber}
-use Rattle.frames.specs.Layout.{mostRound, mostBacklog, mostRequests, longestToken, tokenSize}
-use Rattle.frames.specs.Token.{numbered, requestNumbers, tokenFollows, tokenBytes}
-use Rattle.frames.specs.Write.{writingOf, tokenWritten, tokenPut}
+use Rattle.frames.specs.Number.{most_number}
+use Rattle.frames.specs.Layout.{most_round, most_backlog, most_requests, longest_token, token_size}
+use Rattle.frames.specs.Token.{numbered, request_numbers, token_follows, token_bytes}
+use Rattle.frames.specs.Write.{writing_of, token_written, token_put}
 use Rattle.frames.proofs.WriteLaws.{token-put}
 use Rattle.frames.specs.declared.number.MessageNumber.{MessageNumber}
 use Rattle.frames.specs.declared.header.Header.{Header}
 use Rattle.frames.specs.declared.token.Token.{Token}
 use Rattle.frames.proofs.TokenLaws.{drop-replicate}
-use Rattle.record.specs.Size.{mostMembers, mostHeld, mostStall}
-use Rattle.record.specs.inner.Head.{logOn, head_of}
+use Rattle.record.specs.Size.{most_members, most_held, most_stall}
+use Rattle.record.specs.inner.Head.{log_on, head_of}
 use Rattle.record.specs.Held.{holds}
 use Rattle.record.specs.declared.turn.Turn.{Turn}
-use Rattle.visit.specs.Deliver.{ringHeader}
-use Rattle.visit.specs.Visit.{Visit, log, own, turn, others, waits, othersBacklog, requests, unanswered, newCount, highest', logNow, isNobody, isOwn, setsAru, aru', blocker', deafAbove, stall', deaf, safe', missing, requests', broadcasts, round', waits', backlog', nextMember, token', turn'}
-use Rattle.record.specs.Count.{those, numbersAfter}
+use Rattle.visit.specs.Deliver.{ring_header}
+use Rattle.visit.specs.Visit.{Visit, log, own, turn, others, waits, others_backlog, requests, unanswered, new_count, highest', log_now, is_nobody, is_own, sets_aru, aru', blocker', deaf_above, stall', deaf, safe', missing, requests', broadcasts, round', waits', backlog', next_member, token', turn'}
+use Rattle.record.specs.Count.{those, numbers_after}
 use Rattle.visit.specs.Acceptable.{Acceptable}
-use Rattle.visit.specs.inner.Steps.{listed, listIn, sentOf, reachAfter, reachOf, forwardedOf}
+use Rattle.visit.specs.inner.Steps.{listed, list_in, sent_of, reach_after, reach_of, forwarded_of}
 use Rattle.visit.specs.declared.requests.Requests.{Requests}
 use Rattle.visit.specs.declared.broadcasting.Sent.{Sent}
 use Rattle.visit.specs.declared.marks.Reach.{Reach}
@@ -42,18 +42,18 @@ cond-number true x y = refl
 cond-number false x y = refl
 
 module _ (v : Visit) (a : Acceptable v) where
-  pub members-fit : ((log v).count ≤ mostMembers) × (length (log v).members ≡ mostMembers)
+  pub members-fit : ((log v).count ≤ most_members) × (length (log v).members ≡ most_members)
   members-fit = let members = (facts v a).log.ready.members in (members.few, members.long)
 
-  pub safe-most : safe' v ≤ mostNumber
+  pub safe-most : safe' v ≤ most_number
   unfolding safe'
   safe-most = let marks = (facts v a).log.ready.marks in omega (arith, (facts v a).turn.aru)
 
-  few-unanswered : length (unanswered v) ≤ mostRequests
+  few-unanswered : length (unanswered v) ≤ most_requests
   unfolding unanswered requests
   few-unanswered =
-      let asked = take v.token.count (requestNumbers v.token) in
-      omega (arith, those-length (λ n. not (holds (log v) n)) asked, length-take v.token.count (requestNumbers v.token), (token-good v a).requests.few)
+      let asked = take v.token.count (request_numbers v.token) in
+      omega (arith, those-length (λ n. not (holds (log v) n)) asked, length-take v.token.count (request_numbers v.token), (token-good v a).requests.few)
 
   -- ---- fields of the token that is written
 
@@ -72,56 +72,56 @@ module _ (v : Visit) (a : Acceptable v) where
   broadcasts-fit : broadcasts v ≤ 16
   broadcasts-fit = few-broadcasts v a
 
-  pub sent-fits : (n : ℕ) → n ≡ (sentOf v).count → n ≤ 16
-  unfolding sentOf
+  pub sent-fits : (n : ℕ) → n ≡ (sent_of v).count → n ≤ 16
+  unfolding sent_of
   sent-fits n e = omega (arith, broadcasts-fit)
 
   -- ---- what was sent
 
-  module _ (b : Sent) (sends : b ≡ sentOf v) where
-    pub sent-log : b.log ≡ head_of (logNow v)
-    unfolding sentOf
+  module _ (b : Sent) (sends : b ≡ sent_of v) where
+    pub sent-log : b.log ≡ head_of (log_now v)
+    unfolding sent_of
     sent-log = ap (λ (x : Sent). x.log) sends
 
     sent-rest : b.rest ≡ listed (unanswered v)
-    unfolding sentOf
+    unfolding sent_of
     sent-rest = ap (λ (x : Sent). x.rest) sends
 
-    pub sent-added : b.added ≡ newCount v
-    unfolding sentOf
+    pub sent-added : b.added ≡ new_count v
+    unfolding sent_of
     sent-added = ap (λ (x : Sent). x.added) sends
 
     pub sent-count : b.count ≡ broadcasts v
-    unfolding sentOf
+    unfolding sent_of
     sent-count = ap (λ (x : Sent). x.count) sends
 
     sent-highest : v.token.highest.0 + b.added ≡ highest' v
     unfolding highest'
     sent-highest = rw sent-added
 
-    pub highest-fits : v.token.highest.0 + b.added ≤ mostNumber
+    pub highest-fits : v.token.highest.0 + b.added ≤ most_number
     highest-fits = omega (arith, sent-highest, highest-most v a)
 
     -- ---- step 4
 
     pub reached : (r : Reach) (highest : ℕ)
         → highest ≡ v.token.highest.0 + b.added
-        → r ≡ reachAfter (own v) b.log.level (record { 0 = highest }) v.token.aru v.token.blocker
-        → r ≡ reachOf v
-    unfolding reachOf aru' blocker' setsAru
+        → r ≡ reach_after (own v) b.log.level (record { 0 = highest }) v.token.aru v.token.blocker
+        → r ≡ reach_of v
+    unfolding reach_of aru' blocker' sets_aru
     reached r highest h e = e ∙ rw (cond-number, sent-log, h, sent-highest)
 
     -- ---- step 7
 
     module _ (safe : ℕ) (marks : safe ≡ safe' v) where
-      pub window-fits : safe + mostHeld ≤ mostNumber + mostHeld
+      pub window-fits : safe + most_held ≤ most_number + most_held
       window-fits = omega (arith, safe-most)
 
-      module _ (top : ℕ) (tops : top ≡ min (v.token.highest.0 + b.added) (safe + mostHeld)) where
-        pub missing-ready : (b.log.safe.0 ≤ mostNumber) × (top ≤ mostNumber) × (b.log.level.0 ≤ mostNumber) × (b.rest ≡ listed (listIn b.rest)) × (b.rest.count ≤ mostRequests)
+      module _ (top : ℕ) (tops : top ≡ min (v.token.highest.0 + b.added) (safe + most_held)) where
+        pub missing-ready : (b.log.safe.0 ≤ most_number) × (top ≤ most_number) × (b.log.level.0 ≤ most_number) × (b.rest ≡ listed (list_in b.rest)) × (b.rest.count ≤ most_requests)
         missing-ready =
             let m = (now-good v a).ready.marks in (
-              rw sent-log (omega (arith, m.safe-first, m.level-last, m.level-most)),
+              rw sent-log (omega (arith, m.safe_first, m.level-last, m.level-most)),
               omega (arith, highest-fits),
               rw sent-log m.level-most,
               rw (sent-rest, list-of-listed),
@@ -129,11 +129,11 @@ module _ (v : Visit) (a : Acceptable v) where
             )
 
         pub requested : (r : Requests)
-            → ((contents : List ℕ) → r ≡ listed (take mostRequests
-            (listIn b.rest ++ those (λ n. not (holds (logOn b.log contents) n) && lacks (listIn b.rest) n) (numbersAfter b.log.level.0 (top - b.log.level.0)))))
+            → ((contents : List ℕ) → r ≡ listed (take most_requests
+            (list_in b.rest ++ those (λ n. not (holds (log_on b.log contents) n) && lacks (list_in b.rest) n) (numbers_after b.log.level.0 (top - b.log.level.0)))))
             → r ≡ listed (requests' v)
         unfolding requests' missing
-        requested r e = e (logNow v).held.contents ∙ rw (sent-rest, list-of-listed, sent-log, tops, sent-highest, marks)
+        requested r e = e (log_now v).held.contents ∙ rw (sent-rest, list-of-listed, sent-log, tops, sent-highest, marks)
 
     -- ---- step 8
 
@@ -151,14 +151,14 @@ module _ (v : Visit) (a : Acceptable v) where
     left-waiting n e = e ∙ rw sent-added
 
     pub token-made : (header : Header) (addressee others-count round backlog-count waits-now backlog : ℕ) (r : Reach) (asked : Requests) (places : List MessageNumber)
-        → header ≡ ringHeader (log v)
-        → addressee ≡ nextMember (take ((log v).count - 0) (log v).members) (own v)
+        → header ≡ ring_header (log v)
+        → addressee ≡ next_member (take ((log v).count - 0) (log v).members) (own v)
         → others-count ≡ v.token.round - (turn v).broadcast
-        → round ≡ min (others-count + b.count) mostRound
+        → round ≡ min (others-count + b.count) most_round
         → backlog-count ≡ v.token.backlog - (turn v).waited
         → waits-now ≡ waits' v
-        → backlog ≡ min (backlog-count + waits-now) mostBacklog
-        → r ≡ reachOf v
+        → backlog ≡ min (backlog-count + waits-now) most_backlog
+        → r ≡ reach_of v
         → asked ≡ listed (requests' v)
         → places ≡ numbered asked.numbers
         → record {
@@ -174,24 +174,24 @@ module _ (v : Visit) (a : Acceptable v) where
           requests = places;
         }
         ≡ token' v
-    unfolding token' reachOf listed round' others backlog' othersBacklog
+    unfolding token' reach_of listed round' others backlog' others_backlog
     token-made header addressee others-count round backlog-count waits-now backlog r asked places h d o n q w m e f p =
         rw (h, d, n, o, m, q, w, sent-count, sent-highest, e, p, f, sub-zero)
 
   module _ (token : Token) (is : token ≡ token' v) where
-    pub size_fits : (size : ℕ) → size ≡ tokenSize token.count → size ≤ longestToken
-    size_fits size e = let known : size ≡ tokenSize (length (requests' v)) = e ∙ rw (is, token-count) in omega (arith, few-requests v a)
+    pub size_fits : (size : ℕ) → size ≡ token_size token.count → size ≤ longest_token
+    size_fits size e = let known : size ≡ token_size (length (requests' v)) = e ∙ rw (is, token-count) in omega (arith, few-requests v a)
 
-    token-written : tokenPut token (replicate longestToken 0) ≡ (tokenWritten token (replicate longestToken 0)).out
+    token-written : token_put token (replicate longest_token 0) ≡ (token_written token (replicate longest_token 0)).out
     token-written =
-        let zeros : List ℕ = replicate longestToken 0 in
-        let long : length zeros ≡ longestToken = length-replicate {A = ℕ} longestToken 0 in
-        token-put token zeros (rw is (token-follows v a)) (omega (arith, long, size_fits (tokenSize token.count) refl))
+        let zeros : List ℕ = replicate longest_token 0 in
+        let long : length zeros ≡ longest_token = length-replicate {A = ℕ} longest_token 0 in
+        token-put token zeros (rw is (token-follows v a)) (omega (arith, long, size_fits (token_size token.count) refl))
 
     pub turn-made : (bytes : List ℕ) (size count stall waits-now : ℕ)
-        → bytes ≡ tokenPut token (replicate longestToken 0)
-        → size ≡ tokenSize token.count
-        → count ≡ (sentOf v).count
+        → bytes ≡ token_put token (replicate longest_token 0)
+        → size ≡ token_size token.count
+        → count ≡ (sent_of v).count
         → stall ≡ stall' v
         → waits-now ≡ waits' v
         → record {
@@ -205,27 +205,27 @@ module _ (v : Visit) (a : Acceptable v) where
           token = bytes;
         }
         ≡ turn' v
-    unfolding turn' writingOf sentOf
+    unfolding turn' writing_of sent_of
     turn-made bytes size count stall waits-now e f g h w =
-        let frame = tokenBytes (token' v) in
-        let put : bytes ≡ frame ++ replicate (longestToken - length frame) 0 =
-        rw (is, token-follows v a, le-leb (length frame) longestToken (token-short v a), drop-replicate longestToken (length frame)) at (e ∙ token-written) in
+        let frame = token_bytes (token' v) in
+        let put : bytes ≡ frame ++ replicate (longest_token - length frame) 0 =
+        rw (is, token-follows v a, le-leb (length frame) longest_token (token-short v a), drop-replicate longest_token (length frame)) at (e ∙ token-written) in
         let long : size ≡ length frame = f ∙ rw (is, token-long v a, token-count) in
         rw (put, long, g, h, w, is, token-aru, token-number)
 
   -- ---- steps 5 and 6, and all of it
 
-  module _ (r : Reach) (reaches : r ≡ reachOf v) where
+  module _ (r : Reach) (reaches : r ≡ reach_of v) where
     reach-aru : r.aru.0 ≡ aru' v
-    unfolding reachOf
+    unfolding reach_of
     reach-aru = ap (λ (x : Reach). x.aru.0) reaches
 
     reach-blocker : r.blocker ≡ blocker' v
-    unfolding reachOf
+    unfolding reach_of
     reach-blocker = ap (λ (x : Reach). x.blocker) reaches
 
     pub stalled : (n : ℕ)
-        → n ≡ cond (eqb r.aru.0 (turn v).aru.0 && not (isNobody r.blocker)) (min ((turn v).stall + 1) mostStall) 0
+        → n ≡ cond (eqb r.aru.0 (turn v).aru.0 && not (is_nobody r.blocker)) (min ((turn v).stall + 1) most_stall) 0
         → n ≡ stall' v
     unfolding stall'
     stalled n e = e ∙ rw (reach-aru, reach-blocker)
@@ -237,10 +237,10 @@ module _ (v : Visit) (a : Acceptable v) where
     pub forwarded : (t : Turn) (safe : MessageNumber) (stall id : ℕ)
         → t ≡ turn' v
         → safe.0 ≡ max (log v).safe.0 (min (turn v).aru.0 r.aru.0)
-        → stall ≡ cond (eqb r.aru.0 (turn v).aru.0 && not (isNobody r.blocker)) (min ((turn v).stall + 1) mostStall) 0
-        → id ≡ cond (ltb deafAbove stall && isOwn (own v) r.blocker) (own v) 0
-        → record { turn = t; safe = safe; deaf = id } ≡ forwardedOf v
-    unfolding forwardedOf deaf
+        → stall ≡ cond (eqb r.aru.0 (turn v).aru.0 && not (is_nobody r.blocker)) (min ((turn v).stall + 1) most_stall) 0
+        → id ≡ cond (ltb deaf_above stall && is_own (own v) r.blocker) (own v) 0
+        → record { turn = t; safe = safe; deaf = id } ≡ forwarded_of v
+    unfolding forwarded_of deaf
     forwarded t safe stall id e f g h =
         let mark : safe ≡ record { 0 = safe' v } = ap (λ (n : ℕ). record { 0 = n }) (marked safe.0 f) in
         let notice : id ≡ deaf v = h ∙ rw (stalled stall g, reach-blocker) in

@@ -4,11 +4,11 @@ use mathlib.Core.Path.{◌≡◌, refl, sym, ◌∙◌}
 use mathlib.Core.Bool.{Bool, true, false, ◌||◌, cond}
 use native.Mathlib.Decide.{dec_lt, ℕ_discrete}
 use native.Mathlib.Omega.{arith}
-use Rattle.record.specs.Size.{mostHeld}
+use Rattle.record.specs.Size.{most_held}
 use Rattle.record.specs.Held.{holds}
 use Rattle.record.specs.declared.log.Log.{Log}
 use Rattle.record.proofs.LogWhole.{holding}
-use Rattle.visit.specs.Level.{reached, levelOf, raised}
+use Rattle.visit.specs.Level.{reached, level_of, raised}
 
 -- ---- what is false is not true
 
@@ -68,25 +68,25 @@ reached-next has most level b fits above = go (has (suc (reached has most level)
 -- ---- the log's level
 
 module _ (l : Log) where
-  pub level-low : l.level.0 ≤ levelOf l
-  unfolding levelOf
-  level-low = (reached-facts (holds l) mostHeld l.level.0).low
+  pub level-low : l.level.0 ≤ level_of l
+  unfolding level_of
+  level-low = (reached-facts (holds l) most_held l.level.0).low
 
-  pub level-held : (n : ℕ) → l.level.0 < n → n ≤ levelOf l → holds l n ≡ true
-  unfolding levelOf
-  level-held n low high = (reached-facts (holds l) mostHeld l.level.0).passed n low high
+  pub level-held : (n : ℕ) → l.level.0 < n → n ≤ level_of l → holds l n ≡ true
+  unfolding level_of
+  level-held n low high = (reached-facts (holds l) most_held l.level.0).passed n low high
 
-  pub level-most : (b : ℕ) → l.level.0 ≤ b → ((n : ℕ) → holds l n ≡ true → n ≤ b) → levelOf l ≤ b
-  unfolding levelOf
-  level-most b low above = reached-most (holds l) mostHeld l.level.0 b low above
+  pub level-most : (b : ℕ) → l.level.0 ≤ b → ((n : ℕ) → holds l n ≡ true → n ≤ b) → level_of l ≤ b
+  unfolding level_of
+  level-most b low above = reached-most (holds l) most_held l.level.0 b low above
 
-  pub level-next : l.safe.0 ≤ l.level.0 → holds l (suc (levelOf l)) ≡ false
-  unfolding levelOf
-  level-next low = reached-next (holds l) mostHeld l.level.0 (l.safe.0 + mostHeld) (omega arith) (λ n h. (holding l n h).high)
+  pub level-next : l.safe.0 ≤ l.level.0 → holds l (suc (level_of l)) ≡ false
+  unfolding level_of
+  level-next low = reached-next (holds l) most_held l.level.0 (l.safe.0 + most_held) (omega arith) (λ n h. (holding l n h).high)
 
 -- ---- the log with its level risen holds what it held
 
-pub raised-level : (l : Log) → (raised l).level.0 ≡ levelOf l
+pub raised-level : (l : Log) → (raised l).level.0 ≡ level_of l
 unfolding raised
 raised-level l = refl
 
@@ -105,7 +105,7 @@ pub raised-run : (l : Log) (mark : ℕ)
     → n ≤ (raised l).level.0
     → holds (raised l) n ≡ true
 raised-run l mark before n above below =
-    let top : n ≤ levelOf l = omega (arith, raised-level l) in
+    let top : n ≤ level_of l = omega (arith, raised-level l) in
     raised-holds l n
     ∙ elim (dec_lt l.level.0 n) [
       | yes h ↦ level-held l n h top

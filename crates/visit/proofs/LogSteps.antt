@@ -6,10 +6,10 @@ use borrow.Author.Tests.{lt-ltb}
 use native.Mathlib.Decide.{dec_lt}
 use native.Mathlib.Omega.{arith}
 use lib.Dec.{ltb, eqb}
-use Rattle.frames.specs.Number.{mostNumber}
+use Rattle.frames.specs.Number.{most_number}
 use Rattle.frames.specs.declared.number.MessageNumber.{MessageNumber}
-use Rattle.record.specs.Size.{mostHeld}
-use Rattle.record.specs.Held.{Entry, holds, logWith, stored, let_go}
+use Rattle.record.specs.Size.{most_held}
+use Rattle.record.specs.Held.{Entry, holds, log_with, stored, let_go}
 use Rattle.record.specs.Ring.{ids}
 use Rattle.record.specs.declared.log.Log.{Log}
 use Rattle.record.proofs.HeldLaws.{held-sizes, holds-stored, holds-let-go}
@@ -22,7 +22,7 @@ use Rattle.visit.proofs.LevelLaws.{level-low, level-most, raised-next, raised-ru
 use Rattle.visit.proofs.DueLaws.{due-most}
 
 -- the level is within the window
-pub level-window : (l : Log) → MarksGood l → l.level.0 ≤ l.safe.0 + mostHeld
+pub level-window : (l : Log) → MarksGood l → l.level.0 ≤ l.safe.0 + most_held
 level-window l m =
     elim (dec_lt l.safe.0 l.level.0) [
       | no h ↦ omega arith
@@ -32,11 +32,11 @@ level-window l m =
 -- ---- a message is kept under a free number of the window
 
 module _ (l : Log) (n : ℕ) (e : Entry) (g : LogReady l) (fits : EntryGood (ids l) e)
-    (free : holds l n ≡ false) (low : l.safe.0 < n) (high : n ≤ l.safe.0 + mostHeld) where
+    (free : holds l n ≡ false) (low : l.safe.0 < n) (high : n ≤ l.safe.0 + most_held) where
   pub stored-holds : (i : ℕ) → holds (stored l n e) i ≡ eqb i n || holds l i
   stored-holds = holds-stored l n e (held-sizes l.held g.stock.held.range) low high fits.named fits.short
 
-  pub stored-ready : n ≤ mostNumber → LogReady (stored l n e)
+  pub stored-ready : n ≤ most_number → LogReady (stored l n e)
   stored-ready most =
       let m = g.marks in
       record {
@@ -44,7 +44,7 @@ module _ (l : Log) (n : ℕ) (e : Entry) (g : LogReady l) (fits : EntryGood (ids
         stock = stored-good l n e g.stock free low high most fits;
         marks =
             record {
-              safe-first = m.safe-first;
+              safe_first = m.safe_first;
               level-last = m.level-last;
               level-most = m.level-most;
               to_level = λ i above below. rw (stored-holds i, m.to_level i above below) (or-true (eqb i n));
@@ -53,7 +53,7 @@ module _ (l : Log) (n : ℕ) (e : Entry) (g : LogReady l) (fits : EntryGood (ids
 
 module _ (l : Log) where
   -- what is held does not depend on the marks of level and delivered
-  marked-stock : (level done : MessageNumber) → StockGood l → StockGood (logWith l level l.safe done l.held)
+  marked-stock : (level done : MessageNumber) → StockGood l → StockGood (log_with l level l.safe done l.held)
   unfolding holds
   marked-stock level done s = record { held = s.held; numbers = s.numbers }
 
@@ -70,13 +70,13 @@ module _ (l : Log) where
               stock = marked-stock (raised l).level l.delivered g.stock;
               marks =
                   record {
-                    safe-first = m.safe-first;
+                    safe_first = m.safe_first;
                     level-last = omega (arith, m.level-last, level-low l);
-                    level-most = level-most l mostNumber m.level-most g.stock.numbers;
+                    level-most = level-most l most_number m.level-most g.stock.numbers;
                     to_level = raised-run l l.safe.0 m.to_level;
                   };
             };
-        next = raised-next l (omega (arith, m.safe-first, m.level-last));
+        next = raised-next l (omega (arith, m.safe_first, m.level-last));
       }
 
   -- ---- messages are handed out
@@ -92,7 +92,7 @@ module _ (l : Log) where
               stock = marked-stock l.level (delivered l safe).delivered g.ready.stock;
               marks =
                   record {
-                    safe-first = omega (arith, m.safe-first);
+                    safe_first = omega (arith, m.safe_first);
                     level-last = omega (arith, m.level-last, due-most l safe);
                     level-most = m.level-most;
                     to_level = m.to_level;
@@ -103,7 +103,7 @@ module _ (l : Log) where
 
   -- ---- everything up to a new safe mark is let go
 
-  module _ (safe : ℕ) (g : LogGood l) (low : l.safe.0 ≤ safe) (high : safe ≤ l.safe.0 + mostHeld) where
+  module _ (safe : ℕ) (g : LogGood l) (low : l.safe.0 ≤ safe) (high : safe ≤ l.safe.0 + most_held) where
     gone : (n : ℕ) → holds (let_go l safe) n ≡ ltb safe n && holds l n
     gone = holds-let-go l safe (held-sizes l.held g.ready.stock.held.range) low high
 
@@ -118,7 +118,7 @@ module _ (l : Log) where
                 stock = let-go-good l safe g.ready.stock low high;
                 marks =
                     record {
-                      safe-first = done;
+                      safe_first = done;
                       level-last = m.level-last;
                       level-most = m.level-most;
                       to_level = λ n above below. gone n ∙ rw (lt-ltb safe n above, m.to_level n (omega arith) below);

@@ -11,19 +11,19 @@ use lib.ListN.{length, get_or, take, drop, length-append, length-drop, drop_of_l
 use lib.Dec.{leb}
 use lib.Seq.{take_all, drop-cons, drop-drop, sets, sets-eq, length-sets}
 use Rattle.words.proofs.StoreLaws.{sets-append}
-use Rattle.frames.specs.Layout.{mostContent, longestMessage}
-use Rattle.frames.specs.Write.{writingOf}
+use Rattle.frames.specs.Layout.{most_content, longest_message}
+use Rattle.frames.specs.Write.{writing_of}
 use Rattle.frames.specs.declared.header.Header.{Header}
 use Rattle.frames.proofs.Facts.{message-facts}
 use Rattle.frames.proofs.Sizes.{message-length}
 use Rattle.record.specs.Held.{place_of, entry_at, holds}
 use Rattle.record.specs.declared.log.Held.{Held}
 use Rattle.record.specs.declared.log.Log.{Log}
-use Rattle.visit.specs.Output.{followedBy}
-use Rattle.visit.specs.Deliver.{ringHeader, frameWith, frame_of, joined}
-use Rattle.record.specs.Count.{numbersAfter}
+use Rattle.visit.specs.Output.{followed_by}
+use Rattle.visit.specs.Deliver.{ring_header, frame_with, frame_of, joined}
+use Rattle.record.specs.Count.{numbers_after}
 use Rattle.visit.specs.Reads.{Each}
-use Rattle.visit.specs.inner.Steps.{heldMessage, heldFrame, Frameable}
+use Rattle.visit.specs.inner.Steps.{held_message, held_frame, Frameable}
 use Rattle.visit.proofs.EachLaws.{Between, each_map, after-between, after-length}
 use Rattle.visit.proofs.FrameLaws.{Writable, held-follows}
 
@@ -39,28 +39,28 @@ module _ (bytes out rest' : List ℕ) (at : ℕ) (room : at + length bytes ≤ l
   all : take (length out - at) (drop at out) ≡ drop at out
   all = take_all (length out - at) (drop at out) (omega (arith, left))
 
-  pub part-put : rest' ≡ followedBy bytes (take (length out - at) (drop at out)) → take at out ++ (rest' ++ drop (length out - at) (drop at out)) ≡ sets out at bytes
+  pub part-put : rest' ≡ followed_by bytes (take (length out - at) (drop at out)) → take at out ++ (rest' ++ drop (length out - at) (drop at out)) ≡ sets out at bytes
   part-put e =
       let none : drop (length out - at) (drop at out) ≡ [] = drop_of_length-le (drop at out) {i = length out - at} (omega (arith, left)) in
       let is : rest' ≡ bytes ++ drop (length bytes) (drop at out) = rw all at e in
       rw (none, is, append-nil, drop-drop, sets-eq bytes out at room, append_assoc)
 
   -- a frame, by the writer
-  pub frame-put : (follows : Bool) → follows ≡ true → rest' ≡ (writingOf follows bytes (take (length out - at) (drop at out))).out → take at out ++ (rest' ++ drop (length out - at) (drop at out)) ≡ sets out at bytes
-  unfolding writingOf
+  pub frame-put : (follows : Bool) → follows ≡ true → rest' ≡ (writing_of follows bytes (take (length out - at) (drop at out))).out → take at out ++ (rest' ++ drop (length out - at) (drop at out)) ≡ sets out at bytes
+  unfolding writing_of
   frame-put follows taken w =
       let part = take (length out - at) (drop at out) in
       let fits : leb (length bytes) (length part) ≡ true = le-leb (length bytes) (length part) (rw all (omega (arith, left))) in
       part-put (rw (taken, fits) at w)
 
 abbrev frames : Header → Held → List ℕ → List ℕ
-frames header h numbers = joined (map (heldFrame header h) numbers)
+frames header h numbers = joined (map (held_frame header h) numbers)
 
 -- ---- a held message, as the code spells it
 
 module _ (header : Header) (h : Held) (n : ℕ) where
   abbrev start : ℕ
-  start = mostContent * place_of n
+  start = most_content * place_of n
 
   abbrev size : ℕ
   size = get_or h.lengths (place_of n) 0
@@ -68,14 +68,14 @@ module _ (header : Header) (h : Held) (n : ℕ) where
   pub held-content : take (start + size - start) (drop start h.contents) ≡ (entry_at h (place_of n)).content
   held-content = let e : start + size - start ≡ size = omega arith in rw e
 
-  pub held-short : Frameable header h n → length (heldFrame header h n) ≤ longestMessage
+  pub held-short : Frameable header h n → length (held_frame header h n) ≤ longest_message
   held-short f =
       let content = (entry_at h (place_of n)).content in
-      omega (arith, message-length (heldMessage header h n) content, (message-facts (heldMessage header h n) content f.follows).short)
+      omega (arith, message-length (held_message header h n) content, (message-facts (held_message header h n) content f.follows).short)
 
 -- ---- of a log
 
-module _ (l : Log) (w : Writable l) (header : Header) (is : header ≡ ringHeader l) where
+module _ (l : Log) (w : Writable l) (header : Header) (is : header ≡ ring_header l) where
   frameable : (n : ℕ) → holds l n ≡ true → Frameable header l.held n
   frameable n held =
       let range = w.log.ready.stock.held.range in
@@ -85,11 +85,11 @@ module _ (l : Log) (w : Writable l) (header : Header) (is : header ≡ ringHeade
   all-frameable numbers = each_map (λ n. holds l n ≡ true) (Frameable header l.held) numbers frameable
 
   -- the n numbers after one
-  pub run-frameable : (last n : ℕ) → ((k : ℕ) → last < k → k ≤ last + n → holds l k ≡ true) → Each (Frameable header l.held) (numbersAfter last n)
-  run-frameable last n held = all-frameable (numbersAfter last n) (each_map (Between last (last + n)) (λ k. holds l k ≡ true) (numbersAfter last n) (λ k b. held k b.above b.upto) (after-between last n))
+  pub run-frameable : (last n : ℕ) → ((k : ℕ) → last < k → k ≤ last + n → holds l k ≡ true) → Each (Frameable header l.held) (numbers_after last n)
+  run-frameable last n held = all-frameable (numbers_after last n) (each_map (Between last (last + n)) (λ k. holds l k ≡ true) (numbers_after last n) (λ k b. held k b.above b.upto) (after-between last n))
 
   pub log-frames : (numbers : List ℕ) → frames header l.held numbers ≡ joined (map (frame_of l) numbers)
-  unfolding frameWith
+  unfolding frame_with
   log-frames numbers = rw is
 
   -- what was put, as the log says it
@@ -104,30 +104,30 @@ module _ (l : Log) (w : Writable l) (header : Header) (is : header ≡ ringHeade
 pub record Putting (header : Header) (h : Held) (numbers out₀ : List ℕ) (at₀ : ℕ) (left out : List ℕ) (at : ℕ) : Type 0 where
   pub ready : Each (Frameable header h) left
   pub long : length out ≡ length out₀
-  pub room : at + longestMessage * length left ≤ length out
+  pub room : at + longest_message * length left ≤ length out
   pub size : at + length (frames header h left) ≡ at₀ + length (frames header h numbers)
   pub is : sets out at (frames header h left) ≡ sets out₀ at₀ (frames header h numbers)
 
 module _ (header : Header) (h : Held) (numbers out : List ℕ) (at : ℕ) where
-  pub putting-starts : Each (Frameable header h) numbers → at + longestMessage * length numbers ≤ length out → Putting header h numbers out at numbers out at
+  pub putting-starts : Each (Frameable header h) numbers → at + longest_message * length numbers ≤ length out → Putting header h numbers out at numbers out at
   putting-starts ready room = record { ready = ready; long = refl; room = room; size = refl; is = refl }
 
 module _ {header : Header} {h : Held} {numbers out₀ : List ℕ} {at₀ : ℕ} {left out : List ℕ} {at : ℕ} (p : Putting header h numbers out₀ at₀ left out at) where
-  pub putting-next : (n : ℕ) (rest : List ℕ) → left ≡ n ∷ rest → Frameable header h n × (at + longestMessage ≤ length out)
+  pub putting-next : (n : ℕ) (rest : List ℕ) → left ≡ n ∷ rest → Frameable header h n × (at + longest_message ≤ length out)
   putting-next n rest e =
       let ready : Each (Frameable header h) (n ∷ rest) = rw e at p.ready in
-      let room : at + longestMessage * length (n ∷ rest) ≤ length out = rw e at p.room in
+      let room : at + longest_message * length (n ∷ rest) ≤ length out = rw e at p.room in
       (ready.0, omega arith)
 
   pub putting-goes : (n : ℕ) (rest out' : List ℕ) (at' : ℕ)
       → left ≡ n ∷ rest
-      → (at' ≡ at + length (heldFrame header h n)) × (out' ≡ sets out at (heldFrame header h n))
+      → (at' ≡ at + length (held_frame header h n)) × (out' ≡ sets out at (held_frame header h n))
       → Putting header h numbers out₀ at₀ rest out' at'
   unfolding flatten
   putting-goes n rest out' at' e put =
-      let frame = heldFrame header h n in
+      let frame = held_frame header h n in
       let ready : Each (Frameable header h) (n ∷ rest) = rw e at p.ready in
-      let room : at + longestMessage * length (n ∷ rest) ≤ length out = rw e at p.room in
+      let room : at + longest_message * length (n ∷ rest) ≤ length out = rw e at p.room in
       let long : length out' ≡ length out = rw put.1 (length-sets out at frame) in
       let size : at + length (frame ++ frames header h rest) ≡ at₀ + length (frames header h numbers) = rw e at p.size in
       let is : sets out at (frame ++ frames header h rest) ≡ sets out₀ at₀ (frames header h numbers) = rw e at p.is in
@@ -153,10 +153,10 @@ from_next numbers i h = rw (add-one i) (drop-cons numbers i 0 h)
 -- ---- the n numbers after one, the first i of them past
 
 abbrev pub run_from : ℕ → ℕ → ℕ → List ℕ
-run_from last n i = numbersAfter (last + i) (n - i)
+run_from last n i = numbers_after (last + i) (n - i)
 
 pub run-next : (last n i : ℕ) → i < n → run_from last n i ≡ (last + i + 1) ∷ run_from last n (i + 1)
-unfolding numbersAfter
+unfolding numbers_after
 run-next last n i h =
     let left : n - i ≡ suc (n - (i + 1)) = omega arith in
     let here : last + i + 1 ≡ suc (last + i) = omega arith in
@@ -164,18 +164,18 @@ run-next last n i h =
     rw (left, here, next)
 
 pub run_ends : (last n i : ℕ) → n ≤ i → run_from last n i ≡ []
-unfolding numbersAfter
+unfolding numbers_after
 run_ends last n i h = let none : n - i ≡ 0 = omega arith in rw none
 
 -- no number, and nothing is put
 pub none-put : (l : Log) (last n at : ℕ) (out : List ℕ)
     → n ≡ 0
-    → (at ≡ at + length (joined (map (frame_of l) (numbersAfter last n)))) × (out ≡ sets out at (joined (map (frame_of l) (numbersAfter last n))))
-unfolding numbersAfter flatten
+    → (at ≡ at + length (joined (map (frame_of l) (numbers_after last n)))) × (out ≡ sets out at (joined (map (frame_of l) (numbers_after last n))))
+unfolding numbers_after flatten
 none-put l last n at out e = rw e (omega arith, refl)
 
 module _ (header : Header) (h : Held) (last n : ℕ) (out : List ℕ) (at : ℕ) where
-  pub run-starts : Each (Frameable header h) (numbersAfter last n)
-      → at + longestMessage * n ≤ length out
-      → Putting header h (numbersAfter last n) out at (run_from last n 0) out at
-  run-starts ready room = rw (add-zero, sub-zero) (putting-starts header h (numbersAfter last n) out at ready (omega (arith, after-length last n)))
+  pub run-starts : Each (Frameable header h) (numbers_after last n)
+      → at + longest_message * n ≤ length out
+      → Putting header h (numbers_after last n) out at (run_from last n 0) out at
+  run-starts ready room = rw (add-zero, sub-zero) (putting-starts header h (numbers_after last n) out at ready (omega (arith, after-length last n)))

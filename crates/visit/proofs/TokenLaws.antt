@@ -8,19 +8,19 @@ use native.Mathlib.Omega.{arith}
 use lib.ListN.{length, get_or, replicate, length-append}
 use lib.Dec.{ltb, eqb}
 use Rattle.words.specs.Scan.{every, lacks}
-use Rattle.frames.specs.Number.{mostNumber, is_number, isId}
-use Rattle.frames.specs.Layout.{mostRound, mostBacklog, mostRequests, longestToken, tokenSize}
-use Rattle.frames.specs.Token.{blockerFollows, tokenFollows, tokenBytes}
-use Rattle.frames.specs.Read.{read_of, aToken}
+use Rattle.frames.specs.Number.{most_number, is_number, is_id}
+use Rattle.frames.specs.Layout.{most_round, most_backlog, most_requests, longest_token, token_size}
+use Rattle.frames.specs.Token.{blocker_follows, token_follows, token_bytes}
+use Rattle.frames.specs.Read.{read_of, a_token}
 use Rattle.frames.specs.declared.token.Blocker.{Blocker}
 use Rattle.frames.specs.declared.token.Blocker.TheVariants.{Nobody, Member}
 use Rattle.frames.proofs.NumberedLaws.{numbers-back}
 use Rattle.frames.proofs.Facts.{part}
 use Rattle.frames.proofs.Restored.{token-restored}
 use Rattle.frames.proofs.Sizes.{token-length}
-use Rattle.record.specs.Members.{isMember, representative}
-use Rattle.record.specs.Ring.{ids, thisRing, blockerMember, tokenMembers, tokenPasses}
-use Rattle.visit.specs.Visit.{Visit, log, own, highest', level', ownOrNobody, setsAru, aru', blocker', requests', round', backlog', nextIn, nextMember, token'}
+use Rattle.record.specs.Members.{is_member, representative}
+use Rattle.record.specs.Ring.{ids, this_ring, blocker_member, token_members, token_passes}
+use Rattle.visit.specs.Visit.{Visit, log, own, highest', level', own_or_nobody, sets_aru, aru', blocker', requests', round', backlog', next_in, next_member, token'}
 use Rattle.visit.specs.Reads.{Each}
 use Rattle.visit.specs.Acceptable.{Acceptable}
 use Rattle.visit.proofs.LevelLaws.{not-both, neither}
@@ -32,16 +32,16 @@ use Rattle.visit.proofs.RequestLaws.{few-requests, requests-follow}
 -- ---- the member after one
 
 -- each of a list is a member of it
-pub members-all : (xs : List ℕ) → Each (λ x. isMember xs x ≡ true) xs
+pub members-all : (xs : List ℕ) → Each (λ x. is_member xs x ≡ true) xs
 unfolding every
 members-all [] = tt
-members-all (y ∷ ys) = (rw (eq-eqb y y refl), each_map (λ x. isMember ys x ≡ true) (λ x. isMember (y ∷ ys) x ≡ true) ys later (members-all ys))
+members-all (y ∷ ys) = (rw (eq-eqb y y refl), each_map (λ x. is_member ys x ≡ true) (λ x. is_member (y ∷ ys) x ≡ true) ys later (members-all ys))
   where
-    later : (x : ℕ) → isMember ys x ≡ true → isMember (y ∷ ys) x ≡ true
+    later : (x : ℕ) → is_member ys x ≡ true → is_member (y ∷ ys) x ≡ true
     later x m = simp (not-true (lacks ys x) m, and-false)
 
-next-in : (P : ℕ → Type 0) (first : ℕ) (xs : List ℕ) (id : ℕ) → P first → Each P xs → P (nextIn first xs id)
-unfolding nextIn
+next-in : (P : ℕ → Type 0) (first : ℕ) (xs : List ℕ) (id : ℕ) → P first → Each P xs → P (next_in first xs id)
+unfolding next_in
 next-in P first [] id start all = start
 next-in P first (x ∷ xs) id start all = go (eqb x id) (next-in P first xs id start all.1)
   where
@@ -49,16 +49,16 @@ next-in P first (x ∷ xs) id start all = go (eqb x id) (next-in P first xs id s
     after [] rest = start
     after (y ∷ ys) rest = rest.0
 
-    go : (b : Bool) → P (nextIn first xs id) → P (cond b (get_or xs 0 first) (nextIn first xs id))
+    go : (b : Bool) → P (next_in first xs id) → P (cond b (get_or xs 0 first) (next_in first xs id))
     go true later = after xs all.1
     go false later = later
 
-representative-member : (xs : List ℕ) → 0 < length xs → isMember xs (representative xs) ≡ true
+representative-member : (xs : List ℕ) → 0 < length xs → is_member xs (representative xs) ≡ true
 representative-member [] some = absurd (omega arith)
 representative-member (x ∷ xs) some = (members-all (x ∷ xs)).0
 
-pub next-member : (xs : List ℕ) (id : ℕ) → 0 < length xs → isMember xs (nextMember xs id) ≡ true
-next-member xs id some = next-in (λ x. isMember xs x ≡ true) (representative xs) xs id (representative-member xs some) (members-all xs)
+pub next-member : (xs : List ℕ) (id : ℕ) → 0 < length xs → is_member xs (next_member xs id) ≡ true
+next-member xs id some = next-in (λ x. is_member xs x ≡ true) (representative xs) xs id (representative-member xs some) (members-all xs)
 
 -- ---- aru and blocker
 
@@ -68,33 +68,33 @@ module _ (v : Visit) (a : Acceptable v) where
   highest-grows = omega arith
 
   -- what stays, stays below the highest number and blocked by another
-  kept-follows : (b : Blocker) (aru highest : ℕ) → ownOrNobody (own v) b ≡ false → aru ≤ highest → highest ≤ highest' v → blockerFollows b aru highest ≡ true → blockerFollows b aru (highest' v) ≡ true
+  kept-follows : (b : Blocker) (aru highest : ℕ) → own_or_nobody (own v) b ≡ false → aru ≤ highest → highest ≤ highest' v → blocker_follows b aru highest ≡ true → blocker_follows b aru (highest' v) ≡ true
   kept-follows Nobody aru highest other low grows e = absurd (not-both refl other)
   kept-follows (Member id) aru highest other low grows e =
       let differs = eqb-false aru highest (not-true (eqb aru highest) (part e (λ (f : not (eqb aru highest) ≡ false). rw f))) in
-      let known = part e (λ (f : isId id ≡ false). simp (f, and-false)) in
+      let known = part e (λ (f : is_id id ≡ false). simp (f, and-false)) in
       let apart : aru ≡ highest' v → ⊥ = λ q. differs (omega arith) in
       rw (ne_eqb aru (highest' v) apart, known)
 
-  set-follows : (b : Bool) → eqb (level' v) (highest' v) ≡ b → blockerFollows (cond b Nobody (Member (own v))) (level' v) (highest' v) ≡ true
+  set-follows : (b : Bool) → eqb (level' v) (highest' v) ≡ b → blocker_follows (cond b Nobody (Member (own v))) (level' v) (highest' v) ≡ true
   set-follows true e = e
   set-follows false e = rw (e, own-id v.rec (facts v a))
 
-  set-members : (b : Bool) → blockerMember (ids (log v)) (cond b Nobody (Member (own v))) ≡ true
+  set-members : (b : Bool) → blocker_member (ids (log v)) (cond b Nobody (Member (own v))) ≡ true
   set-members true = refl
   set-members false = (founded-facts v.rec (facts v a)).among
 
   pub record BlockerGood (aru : ℕ) (blocker : Blocker) : Type 0 where
     pub low : aru ≤ highest' v
-    pub follows : blockerFollows blocker aru (highest' v) ≡ true
-    pub member : blockerMember (ids (log v)) blocker ≡ true
+    pub follows : blocker_follows blocker aru (highest' v) ≡ true
+    pub member : blocker_member (ids (log v)) blocker ≡ true
 
-  token-blocker : blockerMember (ids (log v)) v.token.blocker ≡ true
-  unfolding tokenMembers
-  token-blocker = part a.members (λ (f : blockerMember (ids (log v)) v.token.blocker ≡ false). simp (f, and-false))
+  token-blocker : blocker_member (ids (log v)) v.token.blocker ≡ true
+  unfolding token_members
+  token-blocker = part a.members (λ (f : blocker_member (ids (log v)) v.token.blocker ≡ false). simp (f, and-false))
 
-  blocker-case : (sets : Bool) → setsAru v ≡ sets → BlockerGood (cond sets (level' v) v.token.aru.0) (cond sets (cond (eqb (level' v) (highest' v)) Nobody (Member (own v))) v.token.blocker)
-  unfolding setsAru
+  blocker-case : (sets : Bool) → sets_aru v ≡ sets → BlockerGood (cond sets (level' v) v.token.aru.0) (cond sets (cond (eqb (level' v) (highest' v)) Nobody (Member (own v))) v.token.blocker)
+  unfolding sets_aru
   blocker-case true e =
       record {
         low = level-most' v a;
@@ -104,60 +104,60 @@ module _ (v : Visit) (a : Acceptable v) where
   blocker-case false e =
       record {
         low = omega (arith, (token-good v a).aru, highest-grows);
-        follows = kept-follows v.token.blocker v.token.aru.0 v.token.highest.0 (neither (ltb (level' v) v.token.aru.0) (ownOrNobody (own v) v.token.blocker) e).1 (token-good v a).aru highest-grows (token-good v a).blocker;
+        follows = kept-follows v.token.blocker v.token.aru.0 v.token.highest.0 (neither (ltb (level' v) v.token.aru.0) (own_or_nobody (own v) v.token.blocker) e).1 (token-good v a).aru highest-grows (token-good v a).blocker;
         member = token-blocker;
       }
 
   pub blocker-good : BlockerGood (aru' v) (blocker' v)
   unfolding aru' blocker'
-  blocker-good = blocker-case (setsAru v) refl
+  blocker-good = blocker-case (sets_aru v) refl
 
   -- ---- the token
 
-  pub next-good : isMember (ids (log v)) (nextMember (ids (log v)) (own v)) ≡ true
+  pub next-good : is_member (ids (log v)) (next_member (ids (log v)) (own v)) ≡ true
   next-good = next-member (ids (log v)) (own v) (omega (arith, (founded-facts v.rec (facts v a)).some))
 
   number-next : is_number (v.token.number.0 + 1) ≡ true
-  number-next = rw (le-leb 1 (v.token.number.0 + 1) (omega arith), le-leb (v.token.number.0 + 1) mostNumber (omega (arith, a.not_last)))
+  number-next = rw (le-leb 1 (v.token.number.0 + 1) (omega arith), le-leb (v.token.number.0 + 1) most_number (omega (arith, a.not_last)))
 
-  pub token-follows : tokenFollows (token' v) ≡ true
-  unfolding tokenFollows token'
+  pub token-follows : token_follows (token' v) ≡ true
+  unfolding token_follows token'
   token-follows =
       rw (
         numbers-back,
         ring-header v.rec (facts v a),
-        member-id v.rec (facts v a) (nextMember (ids (log v)) (own v)) next-good,
+        member-id v.rec (facts v a) (next_member (ids (log v)) (own v)) next-good,
         number-next,
-        le-leb (highest' v) mostNumber (highest-most v a),
+        le-leb (highest' v) most_number (highest-most v a),
         le-leb (aru' v) (highest' v) blocker-good.low,
         blocker-good.follows,
-        le-leb (round' v) mostRound (round-most v),
-        le-leb (backlog' v) mostBacklog (backlog-most v),
+        le-leb (round' v) most_round (round-most v),
+        le-leb (backlog' v) most_backlog (backlog-most v),
         requests-follow v a,
       )
 
-  pub token-reads : read_of (tokenBytes (token' v)) ≡ aToken (token' v)
+  pub token-reads : read_of (token_bytes (token' v)) ≡ a_token (token' v)
   token-reads = token-restored (token' v) token-follows
 
-  token-members : tokenMembers (ids (log v)) (token' v) ≡ true
-  unfolding tokenMembers token'
+  token-members : token_members (ids (log v)) (token' v) ≡ true
+  unfolding token_members token'
   token-members = rw (next-good, blocker-good.member)
 
-  this-ring : thisRing (log v).ring.0 (ids (log v)) (token' v).header ≡ true
-  unfolding thisRing token'
+  this-ring : this_ring (log v).ring.0 (ids (log v)) (token' v).header ≡ true
+  unfolding this_ring token'
   this-ring = rw (eq-eqb (log v).ring.0 (log v).ring.0 refl, eq-eqb (representative (ids (log v))) (representative (ids (log v))) refl)
 
-  pub token-passes : tokenPasses (log v).ring.0 (ids (log v)) (tokenBytes (token' v)) ≡ true
-  unfolding tokenPasses
+  pub token-passes : token_passes (log v).ring.0 (ids (log v)) (token_bytes (token' v)) ≡ true
+  unfolding token_passes
   token-passes = rw (token-reads, this-ring, token-members)
 
   -- ---- its length
 
-  pub token-long : length (tokenBytes (token' v)) ≡ tokenSize (length (requests' v))
+  pub token-long : length (token_bytes (token' v)) ≡ token_size (length (requests' v))
   unfolding token'
   token-long =
-      let pad : List ℕ = replicate (mostRequests - length (requests' v)) 0 in
+      let pad : List ℕ = replicate (most_requests - length (requests' v)) 0 in
       token-length (token' v) (rw numbers-back (omega (arith, length-append (requests' v) pad)))
 
-  pub token-short : length (tokenBytes (token' v)) ≤ longestToken
+  pub token-short : length (token_bytes (token' v)) ≤ longest_token
   token-short = omega (arith, token-long, few-requests v a)

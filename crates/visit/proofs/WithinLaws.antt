@@ -7,18 +7,18 @@ use native.Mathlib.Omega.{arith}
 use lib.ListN.{length, length-append}
 use lib.Seq.{take-append-le, take_at, drop_at}
 use Rattle.words.specs.Word.{word_at}
-use Rattle.frames.specs.Header.{ownSize}
+use Rattle.frames.specs.Header.{own_size}
 use Rattle.frames.proofs.Rewritten.{Exact}
 use Rattle.visit.specs.Deliver.{joined}
-use Rattle.visit.specs.Within.{framesUpTo, framesIn}
+use Rattle.visit.specs.Within.{frames_up_to, frames_in}
 use Rattle.visit.specs.Reads.{Each}
 
-first-size : (f rest : List ℕ) → Exact f → ownSize (f ++ rest) ≡ length f
+first-size : (f rest : List ℕ) → Exact f → own_size (f ++ rest) ≡ length f
 unfolding word_at
 first-size f rest exact = rw (take-append-le 2 f rest (omega (arith, exact.long))) (sym exact.size)
 
-found-up-to : (most : ℕ) (frames : List (List ℕ)) → Each Exact frames → length (joined frames) ≤ most → framesUpTo most (joined frames) ≡ frames
-unfolding framesUpTo flatten
+found-up-to : (most : ℕ) (frames : List (List ℕ)) → Each Exact frames → length (joined frames) ≤ most → frames_up_to most (joined frames) ≡ frames
+unfolding frames_up_to flatten
 found-up-to zero [] all fits = refl
 found-up-to (suc most) [] all fits = refl
 found-up-to zero (f ∷ frames) all fits = absurd (omega (arith, length-append f (joined frames), all.0.long))
@@ -34,6 +34,6 @@ found-up-to (suc most) (f ∷ frames) all fits =
       found-up-to most frames all.1 (omega (arith, all.0.long)),
     )
 
-pub frames-within : (frames : List (List ℕ)) → Each Exact frames → framesIn (joined frames) ≡ frames
-unfolding framesIn
+pub frames-within : (frames : List (List ℕ)) → Each Exact frames → frames_in (joined frames) ≡ frames
+unfolding frames_in
 frames-within frames all = found-up-to (length (joined frames)) frames all (omega arith)

@@ -1,17 +1,17 @@
 // Steps 1 to 3 of a visit: the repeats are written out, and the new messages are held, but for their contents.
 ghost use Rattle.std.specs.Prelude.{◌≡◌, true, map, ◌*◌, ◌≤◌, length};
 ghost use Rattle.std.proofs.lemmas.List.Edits.{sets};
-ghost use Rattle.frames.specs.Layout.{longestMessage, mostRequests};
-ghost use Rattle.frames.specs.Header.{headerFollows};
-ghost use Rattle.record.specs.inner.Head.{logOn, recordIn};
-ghost use Rattle.record.specs.Layout.{recordSize};
+ghost use Rattle.frames.specs.Layout.{longest_message, most_requests};
+ghost use Rattle.frames.specs.Header.{header_follows};
+ghost use Rattle.record.specs.inner.Head.{log_on, record_in};
+ghost use Rattle.record.specs.Layout.{record_size};
 ghost use Rattle.record.specs.Held.{holds};
 ghost use Rattle.record.proofs.WholeFacts.{LogGood};
-ghost use Rattle.visit.specs.Output.{mostFrames};
-ghost use Rattle.visit.specs.Deliver.{ringHeader, frame_of, joined};
+ghost use Rattle.visit.specs.Output.{most_frames};
+ghost use Rattle.visit.specs.Deliver.{ring_header, frame_of, joined};
 ghost use Rattle.visit.specs.Reads.{Each};
 ghost use Rattle.visit.specs.Acceptable.{Acceptable, visit};
-ghost use Rattle.visit.specs.inner.Steps.{listIn, repeatFrames, sentOf};
+ghost use Rattle.visit.specs.inner.Steps.{list_in, repeat_frames, sent_of};
 
 use crate::requests::Requests;
 use crate::{flow, held_frames, level, new_messages, requests};
@@ -31,14 +31,14 @@ pub struct Sent {
 
 // The repeats' frames, from the front.
 fn put_repeats(l: LogHead, contents: &[u8], repeats: Requests, out: &mut [u8]) -> usize
-    requires { LogGood (logOn l contents.now)
-        × (headerFollows (ringHeader (logOn l contents.now)) ≡ true)
-        × (repeats.count ≤ mostRequests)
-        × Each (λ n. holds (logOn l contents.now) n ≡ true) (listIn repeats)
-        × (longestMessage * repeats.count ≤ length out.old) }
-    ensures { (result ≡ length (joined (map (frame_of (logOn l contents.now)) (listIn repeats))))
+    requires { LogGood (log_on l contents.now)
+        × (header_follows (ring_header (log_on l contents.now)) ≡ true)
+        × (repeats.count ≤ most_requests)
+        × Each (λ n. holds (log_on l contents.now) n ≡ true) (list_in repeats)
+        × (longest_message * repeats.count ≤ length out.old) }
+    ensures { (result ≡ length (joined (map (frame_of (log_on l contents.now)) (list_in repeats))))
         × (out.new ≡ sets out.old 0
-        (joined (map (frame_of (logOn l contents.now)) (listIn repeats)))) }
+        (joined (map (frame_of (log_on l contents.now)) (list_in repeats)))) }
 {
     let numbers = repeats.numbers;
     let count = repeats.count as usize;
@@ -47,12 +47,12 @@ fn put_repeats(l: LogHead, contents: &[u8], repeats: Requests, out: &mut [u8]) -
 
 // Ruled out: a post sent that the round count forbids; a repeat that isn't held.
 pub fn broadcast(h: Head, s: &[u8], t: Token, out: &mut [u8]) -> Sent
-    requires { Acceptable (visit (recordIn h s.now) t)
-        × (recordSize ≤ length s.now)
-        × (mostFrames ≤ length out.old) }
-    ensures { (result ≡ sentOf (visit (recordIn h s.now) t))
+    requires { Acceptable (visit (record_in h s.now) t)
+        × (record_size ≤ length s.now)
+        × (most_frames ≤ length out.old) }
+    ensures { (result ≡ sent_of (visit (record_in h s.now) t))
         × (out.new ≡ sets out.old 0
-        (joined (repeatFrames (visit (recordIn h s.now) t)))) }
+        (joined (repeat_frames (visit (record_in h s.now) t)))) }
 {
     let places = t.requests;
     let requests = frames::numbers_in(places);

@@ -1,15 +1,15 @@
 // Delivery: which messages are due, and their frames.
 ghost use Rattle.std.specs.Prelude.{◌≡◌, true, ◌||◌, List, map, ℕ, ◌+◌, ◌*◌, ◌≤◌, ◌<◌, length, get_or, leb, eqb};
 ghost use Rattle.std.proofs.lemmas.List.Edits.{sets};
-ghost use Rattle.frames.specs.Number.{mostNumber};
-ghost use Rattle.frames.specs.Layout.{longestMessage};
-ghost use Rattle.frames.specs.Header.{headerFollows};
-ghost use Rattle.record.specs.inner.Head.{logOn};
+ghost use Rattle.frames.specs.Number.{most_number};
+ghost use Rattle.frames.specs.Layout.{longest_message};
+ghost use Rattle.frames.specs.Header.{header_follows};
+ghost use Rattle.record.specs.inner.Head.{log_on};
 ghost use Rattle.record.specs.Held.{place_of, holds};
 ghost use Rattle.record.proofs.WholeFacts.{LogGood};
-ghost use Rattle.visit.specs.Output.{followedBy, mostDeliveries};
-ghost use Rattle.visit.specs.Deliver.{ringHeader, frame_of, joined, due, handedOut};
-ghost use Rattle.record.specs.Count.{numbersAfter};
+ghost use Rattle.visit.specs.Output.{followed_by, most_deliveries};
+ghost use Rattle.visit.specs.Deliver.{ring_header, frame_of, joined, due, handed_out};
+ghost use Rattle.record.specs.Count.{numbers_after};
 ghost use Rattle.visit.specs.inner.Steps.{JustKept};
 
 use crate::held_frames;
@@ -26,8 +26,8 @@ fn is_due(services: &[u16; record::MOST_HELD], safe: MessageNumber, n: MessageNu
 
 // How many messages are due.
 fn due_count(l: LogHead, safe: MessageNumber) -> u32
-    requires { l.level.0 ≤ mostNumber }
-    ensures { (contents : List ℕ) → result ≡ length (due (logOn l contents) safe.0) }
+    requires { l.level.0 ≤ most_number }
+    ensures { (contents : List ℕ) → result ≡ length (due (log_on l contents) safe.0) }
 {
     let services = l.services;
     let level = l.level.0;
@@ -51,12 +51,12 @@ pub struct Handed {
 // Hands out what is due by a safe mark. Ruled out: a safe message above the mark handed out; the frames
 // in another order.
 pub fn hand_out(l: LogHead, contents: &[u8], safe: MessageNumber, out: &mut [u8]) -> Handed
-    requires { LogGood (logOn l contents.now)
-        × (headerFollows (ringHeader (logOn l contents.now)) ≡ true)
-        × (mostDeliveries ≤ length out.old) }
-    ensures { (result.count ≡ length (due (logOn l contents.now) safe.0))
-        × (result.size ≡ length (handedOut (logOn l contents.now) safe.0))
-        × (out.new ≡ followedBy (handedOut (logOn l contents.now) safe.0) out.old) }
+    requires { LogGood (log_on l contents.now)
+        × (header_follows (ring_header (log_on l contents.now)) ≡ true)
+        × (most_deliveries ≤ length out.old) }
+    ensures { (result.count ≡ length (due (log_on l contents.now) safe.0))
+        × (result.size ≡ length (handed_out (log_on l contents.now) safe.0))
+        × (out.new ≡ followed_by (handed_out (log_on l contents.now) safe.0) out.old) }
 {
     let count = due_count(l, safe);
     let size = held_frames::put_run(l, contents, l.delivered, count, out, 0);
@@ -66,15 +66,15 @@ pub fn hand_out(l: LogHead, contents: &[u8], safe: MessageNumber, out: &mut [u8]
 // The frames of the n numbers after the delivered mark. A message that has just been kept is written from
 // the part of its own frame where it is the first of them; all others are written from the log.
 fn put_due(l: LogHead, contents: &[u8], n: u32, m: Message, content: &[u8], out: &mut [u8]) -> usize
-    requires { LogGood (logOn l contents.now)
-        × (headerFollows (ringHeader (logOn l contents.now)) ≡ true)
-        × JustKept (logOn l contents.now) m content.now
-        × ((k : ℕ) → l.delivered.0 < k → k ≤ l.delivered.0 + n → holds (logOn l contents.now) k ≡ true)
-        × (l.delivered.0 + n ≤ mostNumber)
-        × (longestMessage * n ≤ length out.old) }
-    ensures { (result ≡ length (joined (map (frame_of (logOn l contents.now)) (numbersAfter l.delivered.0 n))))
+    requires { LogGood (log_on l contents.now)
+        × (header_follows (ring_header (log_on l contents.now)) ≡ true)
+        × JustKept (log_on l contents.now) m content.now
+        × ((k : ℕ) → l.delivered.0 < k → k ≤ l.delivered.0 + n → holds (log_on l contents.now) k ≡ true)
+        × (l.delivered.0 + n ≤ most_number)
+        × (longest_message * n ≤ length out.old) }
+    ensures { (result ≡ length (joined (map (frame_of (log_on l contents.now)) (numbers_after l.delivered.0 n))))
         × (out.new ≡ sets out.old 0
-        (joined (map (frame_of (logOn l contents.now)) (numbersAfter l.delivered.0 n)))) }
+        (joined (map (frame_of (log_on l contents.now)) (numbers_after l.delivered.0 n)))) }
 {
     if n == 0 {
         return 0;
@@ -96,13 +96,13 @@ pub fn hand_out_kept(
     content: &[u8],
     out: &mut [u8],
 ) -> Handed
-    requires { LogGood (logOn l contents.now)
-        × (headerFollows (ringHeader (logOn l contents.now)) ≡ true)
-        × JustKept (logOn l contents.now) m content.now
-        × (mostDeliveries ≤ length out.old) }
-    ensures { (result.count ≡ length (due (logOn l contents.now) l.safe.0))
-        × (result.size ≡ length (handedOut (logOn l contents.now) l.safe.0))
-        × (out.new ≡ followedBy (handedOut (logOn l contents.now) l.safe.0) out.old) }
+    requires { LogGood (log_on l contents.now)
+        × (header_follows (ring_header (log_on l contents.now)) ≡ true)
+        × JustKept (log_on l contents.now) m content.now
+        × (most_deliveries ≤ length out.old) }
+    ensures { (result.count ≡ length (due (log_on l contents.now) l.safe.0))
+        × (result.size ≡ length (handed_out (log_on l contents.now) l.safe.0))
+        × (out.new ≡ followed_by (handed_out (log_on l contents.now) l.safe.0) out.old) }
 {
     let count = due_count(l, l.safe);
     let size = put_due(l, contents, count, m, content, out);

@@ -1,10 +1,10 @@
 // Flow control: how many new messages a visit sends, and the round count and the backlog that it leaves. Steps 1, 3
 // and 8.
 ghost use Rattle.std.specs.Prelude.{◌≡◌, cond, ◌+◌, ◌-◌, ◌≤◌, ◌<◌, min, eqb, length};
-ghost use Rattle.frames.specs.Number.{mostNumber};
-ghost use Rattle.record.specs.Size.{mostPosts};
-ghost use Rattle.record.specs.inner.Head.{recordIn};
-ghost use Rattle.visit.specs.Visit.{mostNew, mostInRound, share as Visit·share, repeats as Visit·repeats, newCount};
+ghost use Rattle.frames.specs.Number.{most_number};
+ghost use Rattle.record.specs.Size.{most_posts};
+ghost use Rattle.record.specs.inner.Head.{record_in};
+ghost use Rattle.visit.specs.Visit.{most_new, most_in_round, share as Visit·share, repeats as Visit·repeats, new_count};
 ghost use Rattle.visit.specs.Acceptable.{visit};
 
 use frames::Token;
@@ -26,7 +26,7 @@ pub fn others_part(sum: u16, own: u8) -> u32
 // 1. What the round leaves, from the token's round count and what was broadcast at the last visit. Ruled out: one's
 // own last broadcasts counted; nothing allowed after the first visit.
 fn round_allowance(round: u16, t: Turn) -> u32
-    ensures { result ≡ min mostNew (mostInRound - (round - t.broadcast)) }
+    ensures { result ≡ min most_new (most_in_round - (round - t.broadcast)) }
 {
     let others = others_part(round, t.broadcast);
     if MOST_IN_ROUND <= others {
@@ -37,7 +37,7 @@ fn round_allowance(round: u16, t: Turn) -> u32
 
 // 1. The share of what waits here. Ruled out: rounded up; nothing for one post beside many.
 fn share(others: u32, own: u32) -> u32
-    requires { (0 < own) × (own ≤ mostPosts) × (others ≤ 65535) }
+    requires { (0 < own) × (own ≤ most_posts) × (others ≤ 65535) }
     ensures { result ≡ Visit·share others own }
 {
     let part = MOST_IN_ROUND * own / (others + own);
@@ -46,10 +46,10 @@ fn share(others: u32, own: u32) -> u32
 
 // 1. The allowance. Ruled out: one's own part left in the backlog; a limit where no post waits.
 fn allowance(round: u16, backlog: u16, t: Turn, waits: u8) -> u32
-    requires { waits ≤ mostPosts }
+    requires { waits ≤ most_posts }
     ensures { result ≡ cond (eqb waits 0)
-        (min mostNew (mostInRound - (round - t.broadcast)))
-        (min (min mostNew (mostInRound - (round - t.broadcast))) (Visit·share (backlog - t.waited) waits)) }
+        (min most_new (most_in_round - (round - t.broadcast)))
+        (min (min most_new (most_in_round - (round - t.broadcast))) (Visit·share (backlog - t.waited) waits)) }
 {
     let allowed = round_allowance(round, t);
     if waits == 0 {
@@ -60,10 +60,10 @@ fn allowance(round: u16, backlog: u16, t: Turn, waits: u8) -> u32
 
 // 3. How many new messages. Ruled out: the posts alone decide; the repeats don't count.
 pub fn new_count(h: Head, s: &[u8], t: Token, repeats: u32) -> u32
-    requires { (repeats ≡ length (Visit·repeats (visit (recordIn h s.now) t)))
-        × (h.log.safe.0 ≤ mostNumber)
-        × (h.posts.count ≤ mostPosts) }
-    ensures { result ≡ newCount (visit (recordIn h s.now) t) }
+    requires { (repeats ≡ length (Visit·repeats (visit (record_in h s.now) t)))
+        × (h.log.safe.0 ≤ most_number)
+        × (h.posts.count ≤ most_posts) }
+    ensures { result ≡ new_count (visit (record_in h s.now) t) }
 {
     let highest = t.highest.0;
     let waits = h.posts.count;

@@ -1,9 +1,9 @@
 // Steps 4 to 8 of a visit: the token that is forwarded and remembered.
 ghost use Rattle.std.specs.Prelude.{◌≡◌};
-ghost use Rattle.record.specs.inner.Head.{recordIn};
+ghost use Rattle.record.specs.inner.Head.{record_in};
 ghost use Rattle.visit.specs.Visit.{requests', safe', stall', waits', token', turn'};
 ghost use Rattle.visit.specs.Acceptable.{Acceptable, visit};
-ghost use Rattle.visit.specs.inner.Steps.{listed, sentOf, reachOf, forwardedOf};
+ghost use Rattle.visit.specs.inner.Steps.{listed, sent_of, reach_of, forwarded_of};
 
 use crate::broadcasting::Sent;
 use crate::marks::Reach;
@@ -23,8 +23,8 @@ pub struct Forwarded {
 
 // 7. The requests.
 fn requests_after(h: Head, s: &[u8], t: Token, b: Sent, safe: MessageNumber) -> Requests
-    requires { Acceptable (visit (recordIn h s.now) t) × (b ≡ sentOf (visit (recordIn h s.now) t)) × (safe.0 ≡ safe' (visit (recordIn h s.now) t)) }
-    ensures { result ≡ listed (requests' (visit (recordIn h s.now) t)) }
+    requires { Acceptable (visit (record_in h s.now) t) × (b ≡ sent_of (visit (record_in h s.now) t)) × (safe.0 ≡ safe' (visit (record_in h s.now) t)) }
+    ensures { result ≡ listed (requests' (visit (record_in h s.now) t)) }
 {
     let highest = t.highest.0 + b.added;
     let window = safe.0 + record::MOST_HELD as u32;
@@ -42,12 +42,12 @@ fn token_after(
     requests: Requests,
     waits: u32,
 ) -> Token
-    requires { Acceptable (visit (recordIn h s.now) t)
-        × (b ≡ sentOf (visit (recordIn h s.now) t))
-        × (reach ≡ reachOf (visit (recordIn h s.now) t))
-        × (requests ≡ listed (requests' (visit (recordIn h s.now) t)))
-        × (waits ≡ waits' (visit (recordIn h s.now) t)) }
-    ensures { result ≡ token' (visit (recordIn h s.now) t) }
+    requires { Acceptable (visit (record_in h s.now) t)
+        × (b ≡ sent_of (visit (record_in h s.now) t))
+        × (reach ≡ reach_of (visit (record_in h s.now) t))
+        × (requests ≡ listed (requests' (visit (record_in h s.now) t)))
+        × (waits ≡ waits' (visit (record_in h s.now) t)) }
+    ensures { result ≡ token' (visit (record_in h s.now) t) }
 {
     let members = h.log.members;
     let n = h.log.count as usize;
@@ -87,12 +87,12 @@ fn turn_after(
     stall: u8,
     waits: u32,
 ) -> Turn
-    requires { Acceptable (visit (recordIn h s.now) t)
-        × (token ≡ token' (visit (recordIn h s.now) t))
-        × (broadcasts ≡ (sentOf (visit (recordIn h s.now) t)).count)
-        × (stall ≡ stall' (visit (recordIn h s.now) t))
-        × (waits ≡ waits' (visit (recordIn h s.now) t)) }
-    ensures { result ≡ turn' (visit (recordIn h s.now) t) }
+    requires { Acceptable (visit (record_in h s.now) t)
+        × (token ≡ token' (visit (record_in h s.now) t))
+        × (broadcasts ≡ (sent_of (visit (record_in h s.now) t)).count)
+        × (stall ≡ stall' (visit (record_in h s.now) t))
+        × (waits ≡ waits' (visit (record_in h s.now) t)) }
+    ensures { result ≡ turn' (visit (record_in h s.now) t) }
 {
     let mut bytes = [0u8; frames::LONGEST_TOKEN];
     frames::put_token(token, &mut bytes);
@@ -113,8 +113,8 @@ fn turn_after(
 
 // Ruled out: the token passed along untouched; a round count that leaves the own broadcasts out.
 pub fn forward(h: Head, s: &[u8], t: Token, b: Sent) -> Forwarded
-    requires { Acceptable (visit (recordIn h s.now) t) × (b ≡ sentOf (visit (recordIn h s.now) t)) }
-    ensures { result ≡ forwardedOf (visit (recordIn h s.now) t) }
+    requires { Acceptable (visit (record_in h s.now) t) × (b ≡ sent_of (visit (record_in h s.now) t)) }
+    ensures { result ≡ forwarded_of (visit (record_in h s.now) t) }
 {
     let highest = MessageNumber(t.highest.0 + b.added);
     let before = t.blocker;

@@ -2,26 +2,26 @@
 // what it put.
 ghost use Rattle.std.specs.Prelude.{◌≡◌, true, List, map, ℕ, ◌+◌, ◌*◌, ◌≤◌, ◌<◌, length};
 ghost use Rattle.std.proofs.lemmas.List.Edits.{sets};
-ghost use Rattle.frames.specs.Number.{mostNumber};
-ghost use Rattle.frames.specs.Layout.{longestMessage};
-ghost use Rattle.frames.specs.Header.{headerFollows};
-ghost use Rattle.frames.specs.Message.{messageFollows, messageBytes};
-ghost use Rattle.record.specs.Size.{mostMembers};
-ghost use Rattle.record.specs.inner.Head.{logOn, heldFrom};
+ghost use Rattle.frames.specs.Number.{most_number};
+ghost use Rattle.frames.specs.Layout.{longest_message};
+ghost use Rattle.frames.specs.Header.{header_follows};
+ghost use Rattle.frames.specs.Message.{message_follows, message_bytes};
+ghost use Rattle.record.specs.Size.{most_members};
+ghost use Rattle.record.specs.inner.Head.{log_on, held_from};
 ghost use Rattle.record.specs.Held.{holds};
 ghost use Rattle.record.proofs.WholeFacts.{LogGood};
-ghost use Rattle.visit.specs.Deliver.{ringHeader, frame_of, joined};
-ghost use Rattle.record.specs.Count.{numbersAfter};
+ghost use Rattle.visit.specs.Deliver.{ring_header, frame_of, joined};
+ghost use Rattle.record.specs.Count.{numbers_after};
 ghost use Rattle.visit.specs.Reads.{Each};
-ghost use Rattle.visit.specs.inner.Steps.{heldFrame, Frameable};
+ghost use Rattle.visit.specs.inner.Steps.{held_frame, Frameable};
 
 use frames::{Header, Message, MessageNumber};
 use record::LogHead;
 
 // The header of this ring's frames.
 pub fn ring_header(l: LogHead) -> Header
-    requires { l.count ≤ mostMembers }
-    ensures { (contents : List ℕ) → result ≡ ringHeader (logOn l contents) }
+    requires { l.count ≤ most_members }
+    ensures { (contents : List ℕ) → result ≡ ring_header (log_on l contents) }
 {
     let members = l.members;
     let n = l.count as usize;
@@ -34,10 +34,10 @@ pub fn ring_header(l: LogHead) -> Header
 
 // The frame of a message, its content wherever that stands.
 pub fn put_message(m: Message, content: &[u8], out: &mut [u8], at: usize) -> usize
-    requires { (messageFollows m content.now ≡ true)
-        × (at + length (messageBytes m content.now) ≤ length out.old) }
-    ensures { (result ≡ at + length (messageBytes m content.now))
-        × (out.new ≡ sets out.old at (messageBytes m content.now)) }
+    requires { (message_follows m content.now ≡ true)
+        × (at + length (message_bytes m content.now) ≤ length out.old) }
+    ensures { (result ≡ at + length (message_bytes m content.now))
+        × (out.new ≡ sets out.old at (message_bytes m content.now)) }
 {
     frames::put_message(m, content, &mut out[at..]);
     at + frames::SHORTEST_MESSAGE + content.len()
@@ -54,11 +54,11 @@ fn put_held<'a>(
     out: &mut [u8],
     at: usize,
 ) -> usize
-    requires { Frameable header (heldFrom senders.now services.now lengths.now contents.now) n.0
-        × (at + longestMessage ≤ length out.old) }
-    ensures { (result ≡ at + length (heldFrame header (heldFrom senders.now services.now lengths.now contents.now) n.0))
+    requires { Frameable header (held_from senders.now services.now lengths.now contents.now) n.0
+        × (at + longest_message ≤ length out.old) }
+    ensures { (result ≡ at + length (held_frame header (held_from senders.now services.now lengths.now contents.now) n.0))
         × (out.new ≡ sets out.old at
-        (heldFrame header (heldFrom senders.now services.now lengths.now contents.now) n.0)) }
+        (held_frame header (held_from senders.now services.now lengths.now contents.now) n.0)) }
 {
     let place = n.0 as usize % record::MOST_HELD;
     let from = frames::MOST_CONTENT * place;
@@ -74,13 +74,13 @@ fn put_held<'a>(
 
 // The frames of numbers that are held, in their order.
 pub fn put_each(l: LogHead, contents: &[u8], numbers: &[u32], out: &mut [u8], at: usize) -> usize
-    requires { LogGood (logOn l contents.now)
-        × (headerFollows (ringHeader (logOn l contents.now)) ≡ true)
-        × Each (λ n. holds (logOn l contents.now) n ≡ true) numbers.now
-        × (at + longestMessage * length numbers.now ≤ length out.old) }
-    ensures { (result ≡ at + length (joined (map (frame_of (logOn l contents.now)) numbers.now)))
+    requires { LogGood (log_on l contents.now)
+        × (header_follows (ring_header (log_on l contents.now)) ≡ true)
+        × Each (λ n. holds (log_on l contents.now) n ≡ true) numbers.now
+        × (at + longest_message * length numbers.now ≤ length out.old) }
+    ensures { (result ≡ at + length (joined (map (frame_of (log_on l contents.now)) numbers.now)))
         × (out.new ≡ sets out.old at
-        (joined (map (frame_of (logOn l contents.now)) numbers.now))) }
+        (joined (map (frame_of (log_on l contents.now)) numbers.now))) }
 {
     let senders = l.senders;
     let services = l.services;
@@ -105,14 +105,14 @@ pub fn put_run(
     out: &mut [u8],
     at: usize,
 ) -> usize
-    requires { LogGood (logOn l contents.now)
-        × (headerFollows (ringHeader (logOn l contents.now)) ≡ true)
-        × ((k : ℕ) → last.0 < k → k ≤ last.0 + n → holds (logOn l contents.now) k ≡ true)
-        × (last.0 + n ≤ mostNumber)
-        × (at + longestMessage * n ≤ length out.old) }
-    ensures { (result ≡ at + length (joined (map (frame_of (logOn l contents.now)) (numbersAfter last.0 n))))
+    requires { LogGood (log_on l contents.now)
+        × (header_follows (ring_header (log_on l contents.now)) ≡ true)
+        × ((k : ℕ) → last.0 < k → k ≤ last.0 + n → holds (log_on l contents.now) k ≡ true)
+        × (last.0 + n ≤ most_number)
+        × (at + longest_message * n ≤ length out.old) }
+    ensures { (result ≡ at + length (joined (map (frame_of (log_on l contents.now)) (numbers_after last.0 n))))
         × (out.new ≡ sets out.old at
-        (joined (map (frame_of (logOn l contents.now)) (numbersAfter last.0 n)))) }
+        (joined (map (frame_of (log_on l contents.now)) (numbers_after last.0 n)))) }
 {
     if n == 0 {
         return at;

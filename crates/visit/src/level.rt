@@ -1,8 +1,8 @@
 // The level rises as far as it can. No content is looked at for it: the log is its head over any contents.
 ghost use Rattle.std.specs.Prelude.{◌≡◌, not, ◌&&◌, List, ℕ, ◌+◌, ◌≤◌, get_or, ltb, leb, eqb};
-ghost use Rattle.frames.specs.Number.{mostNumber};
-ghost use Rattle.record.specs.Size.{mostHeld};
-ghost use Rattle.record.specs.inner.Head.{logOn};
+ghost use Rattle.frames.specs.Number.{most_number};
+ghost use Rattle.record.specs.Size.{most_held};
+ghost use Rattle.record.specs.inner.Head.{log_on};
 ghost use Rattle.record.specs.Held.{place_of};
 ghost use Rattle.visit.specs.Level.{reached, raised};
 
@@ -15,10 +15,10 @@ pub fn level_of(
     safe: MessageNumber,
     senders: &[u16; record::MOST_HELD],
 ) -> MessageNumber
-    requires { (safe.0 ≤ mostNumber) × (level.0 ≤ mostNumber) }
+    requires { (safe.0 ≤ most_number) × (level.0 ≤ most_number) }
     ensures { result.0 ≡ reached
-        (λ n. ltb safe.0 n && leb n (safe.0 + mostHeld) && not (eqb (get_or senders.now (place_of n) 0) 0))
-        mostHeld level.0 }
+        (λ n. ltb safe.0 n && leb n (safe.0 + most_held) && not (eqb (get_or senders.now (place_of n) 0) 0))
+        most_held level.0 }
 {
     let mut reached = level.0;
     let mut most = record::MOST_HELD;
@@ -34,8 +34,8 @@ pub fn level_of(
 
 // The log with its level risen. Ruled out: a rise past a gap; a rise by one where more is held.
 pub fn raise(l: LogHead) -> LogHead
-    requires { (l.safe.0 ≤ mostNumber) × (l.level.0 ≤ mostNumber) }
-    ensures { (contents : List ℕ) → logOn result contents ≡ raised (logOn l contents) }
+    requires { (l.safe.0 ≤ most_number) × (l.level.0 ≤ most_number) }
+    ensures { (contents : List ℕ) → log_on result contents ≡ raised (log_on l contents) }
 {
     let senders = l.senders;
     let level = level_of(l.level, l.safe, &senders);

@@ -1,8 +1,8 @@
 // Steps 4 to 6: aru and its blocker, the stall count and the notice 'deaf', the safe mark.
 ghost use Rattle.std.specs.Prelude.{◌≡◌, not, ◌&&◌, ◌||◌, cond, ◌+◌, min, max, ltb, eqb};
-ghost use Rattle.record.specs.Size.{mostStall};
-ghost use Rattle.visit.specs.Visit.{isNobody, isOwn, ownOrNobody, deafAbove};
-ghost use Rattle.visit.specs.inner.Steps.{reachAfter};
+ghost use Rattle.record.specs.Size.{most_stall};
+ghost use Rattle.visit.specs.Visit.{is_nobody, is_own, own_or_nobody, deaf_above};
+ghost use Rattle.visit.specs.inner.Steps.{reach_after};
 
 use frames::{Blocker, MessageNumber};
 use record::Turn;
@@ -11,7 +11,7 @@ use record::Turn;
 const DEAF_ABOVE: u8 = 10;
 
 fn is_nobody(b: Blocker) -> bool
-    ensures { result ≡ isNobody b }
+    ensures { result ≡ is_nobody b }
 {
     match b {
         Blocker::Nobody => true,
@@ -20,7 +20,7 @@ fn is_nobody(b: Blocker) -> bool
 }
 
 fn is_own(own: u16, b: Blocker) -> bool
-    ensures { result ≡ isOwn own b }
+    ensures { result ≡ is_own own b }
 {
     match b {
         Blocker::Nobody => false,
@@ -36,7 +36,7 @@ pub struct Reach {
 }
 
 fn sets_aru(own: u16, level: MessageNumber, aru: MessageNumber, blocker: Blocker) -> bool
-    ensures { result ≡ (ltb level.0 aru.0 || ownOrNobody own blocker) }
+    ensures { result ≡ (ltb level.0 aru.0 || own_or_nobody own blocker) }
 {
     (level.0 < aru.0) | (is_nobody(blocker) | is_own(own, blocker))
 }
@@ -49,7 +49,7 @@ pub fn reach_after(
     aru: MessageNumber,
     blocker: Blocker,
 ) -> Reach
-    ensures { result ≡ reachAfter own level highest aru blocker }
+    ensures { result ≡ reach_after own level highest aru blocker }
 {
     if !sets_aru(own, level, aru, blocker) {
         return Reach { aru, blocker };
@@ -69,7 +69,7 @@ pub fn reach_after(
 // 5. The stall count.
 pub fn stall_after(t: Turn, aru: MessageNumber, blocker: Blocker) -> u8
     ensures { result ≡
-        cond (eqb aru.0 t.aru.0 && not (isNobody blocker)) (min (t.stall + 1) mostStall) 0 }
+        cond (eqb aru.0 t.aru.0 && not (is_nobody blocker)) (min (t.stall + 1) most_stall) 0 }
 {
     if (aru.0 != t.aru.0) | is_nobody(blocker) {
         return 0;
@@ -82,7 +82,7 @@ pub fn stall_after(t: Turn, aru: MessageNumber, blocker: Blocker) -> u8
 
 // 5. The id in the notice 'deaf', or 0.
 pub fn deaf_after(own: u16, stall: u8, blocker: Blocker) -> u16
-    ensures { result ≡ cond (ltb deafAbove stall && isOwn own blocker) own 0 }
+    ensures { result ≡ cond (ltb deaf_above stall && is_own own blocker) own 0 }
 {
     if (DEAF_ABOVE < stall) & is_own(own, blocker) {
         own

@@ -1,13 +1,13 @@
 // New messages: posts become messages of one's own, under the numbers after the highest. Step 3. The head with
 // them comes first, for the token that is forwarded; their contents move when nothing reads the old ones any more.
 ghost use Rattle.std.specs.Prelude.{◌≡◌, true, ℕ, ◌+◌, ◌≤◌, length, take, drop};
-ghost use Rattle.frames.specs.Number.{mostNumber};
-ghost use Rattle.record.specs.inner.Head.{logOn, postsOn, recordIn, head_of, contentsIn, waitingIn};
-ghost use Rattle.record.specs.Layout.{recordSize, log_at, turnAt, postsAt};
+ghost use Rattle.frames.specs.Number.{most_number};
+ghost use Rattle.record.specs.inner.Head.{log_on, posts_on, record_in, head_of, contents_in, waiting_in};
+ghost use Rattle.record.specs.Layout.{record_size, log_at, turn_at, posts_at};
 ghost use Rattle.record.specs.Posts.{waiting};
-ghost use Rattle.record.specs.Whole.{postsInRange};
+ghost use Rattle.record.specs.Whole.{posts_in_range};
 ghost use Rattle.record.specs.declared.head.LogHead.{LogHead as Head-as-LogHead};
-ghost use Rattle.visit.specs.Visit.{withSent};
+ghost use Rattle.visit.specs.Visit.{with_sent};
 
 use frames::MessageNumber;
 use record::{Head, LogHead, PostsHead};
@@ -15,12 +15,12 @@ use record::{Head, LogHead, PostsHead};
 // The head of the log in which the n oldest posts are held, each under the highest number + 1. Ruled out: the
 // newest post first; a number left out.
 pub fn hold_new(h: Head, s: &[u8], highest: MessageNumber, n: u32) -> LogHead
-    requires { (postsInRange (recordIn h s.now).posts ≡ true)
+    requires { (posts_in_range (record_in h s.now).posts ≡ true)
         × (n ≤ h.posts.count)
-        × (highest.0 + n ≤ mostNumber) }
-    ensures { result ≡ head_of (withSent
-        (recordIn h s.now).log h.own highest.0
-        (take n (waiting (recordIn h s.now).posts))) }
+        × (highest.0 + n ≤ most_number) }
+    ensures { result ≡ head_of (with_sent
+        (record_in h s.now).log h.own highest.0
+        (take n (waiting (record_in h s.now).posts))) }
 {
     let posts = h.posts;
     let log = h.log;
@@ -50,14 +50,14 @@ pub fn hold_new(h: Head, s: &[u8], highest: MessageNumber, n: u32) -> LogHead
 // Their contents go from the posts to where they are held. Ruled out: another post's content; a post's own
 // changed.
 pub fn place_new(s: &mut [u8], posts: PostsHead, highest: MessageNumber, n: u32)
-    requires { (length s.old ≡ recordSize)
-        × (postsInRange (postsOn posts (waitingIn s.old postsAt)) ≡ true)
+    requires { (length s.old ≡ record_size)
+        × (posts_in_range (posts_on posts (waiting_in s.old posts_at)) ≡ true)
         × (n ≤ posts.count)
-        × (highest.0 + n ≤ mostNumber) }
-    ensures { ((l : Head-as-LogHead) (own : ℕ) → contentsIn s.new log_at
-        ≡ (withSent (logOn l (contentsIn s.old log_at)) own highest.0
-        (take n (waiting (postsOn posts (waitingIn s.old postsAt))))).held.contents)
-        × (drop turnAt s.new ≡ drop turnAt s.old) }
+        × (highest.0 + n ≤ most_number) }
+    ensures { ((l : Head-as-LogHead) (own : ℕ) → contents_in s.new log_at
+        ≡ (with_sent (log_on l (contents_in s.old log_at)) own highest.0
+        (take n (waiting (posts_on posts (waiting_in s.old posts_at))))).held.contents)
+        × (drop turn_at s.new ≡ drop turn_at s.old) }
 {
     let lengths = posts.lengths;
     let mut i = 0;

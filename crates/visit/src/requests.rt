@@ -2,12 +2,12 @@
 // 2 and 7.
 ghost use Rattle.std.specs.Prelude.{◌≡◌, not, ◌&&◌, List, ◌++◌, ℕ, ◌-◌, ◌≤◌, length, take};
 ghost use Rattle.words.specs.Scan.{lacks};
-ghost use Rattle.frames.specs.Number.{mostNumber};
-ghost use Rattle.frames.specs.Layout.{mostRequests};
-ghost use Rattle.record.specs.inner.Head.{logOn};
+ghost use Rattle.frames.specs.Number.{most_number};
+ghost use Rattle.frames.specs.Layout.{most_requests};
+ghost use Rattle.record.specs.inner.Head.{log_on};
 ghost use Rattle.record.specs.Held.{holds};
-ghost use Rattle.record.specs.Count.{those, numbersAfter};
-ghost use Rattle.visit.specs.inner.Steps.{listed, listIn};
+ghost use Rattle.record.specs.Count.{those, numbers_after};
+ghost use Rattle.visit.specs.inner.Steps.{listed, list_in};
 
 use frames::MessageNumber;
 use record::LogHead;
@@ -28,10 +28,10 @@ pub struct Split {
 
 // 2. Ruled out: a request struck off whose message isn't held; the rest in another order.
 pub fn split_requests(l: LogHead, requests: &[u32]) -> Split
-    requires { (l.safe.0 ≤ mostNumber) × (length requests.now ≤ mostRequests) }
+    requires { (l.safe.0 ≤ most_number) × (length requests.now ≤ most_requests) }
     ensures { (contents : List ℕ) → result ≡ record {
-      held = listed (those (holds (logOn l contents)) requests.now);
-      rest = listed (those (λ n. not (holds (logOn l contents) n)) requests.now);
+      held = listed (those (holds (log_on l contents)) requests.now);
+      rest = listed (those (λ n. not (holds (log_on l contents) n)) requests.now);
     } }
 {
     let senders = l.senders;
@@ -73,15 +73,15 @@ pub fn add_missing(
     level: MessageNumber,
     top: MessageNumber,
 ) -> Requests
-    requires { (l.safe.0 ≤ mostNumber)
-        × (top.0 ≤ mostNumber)
-        × (level.0 ≤ mostNumber)
-        × (asked ≡ listed (listIn asked))
-        × (asked.count ≤ mostRequests) }
-    ensures { (contents : List ℕ) → result ≡ listed (take mostRequests
-        (listIn asked ++ those
-        (λ n. not (holds (logOn l contents) n) && lacks (listIn asked) n)
-        (numbersAfter level.0 (top.0 - level.0)))) }
+    requires { (l.safe.0 ≤ most_number)
+        × (top.0 ≤ most_number)
+        × (level.0 ≤ most_number)
+        × (asked ≡ listed (list_in asked))
+        × (asked.count ≤ most_requests) }
+    ensures { (contents : List ℕ) → result ≡ listed (take most_requests
+        (list_in asked ++ those
+        (λ n. not (holds (log_on l contents) n) && lacks (list_in asked) n)
+        (numbers_after level.0 (top.0 - level.0)))) }
 {
     let senders = l.senders;
     let rest = asked.numbers;

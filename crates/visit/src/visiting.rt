@@ -2,22 +2,22 @@
 // messages' contents moved, deliveries handed out and messages let go.
 ghost use Rattle.std.specs.Prelude.{◌≡◌, true, ◌++◌, ◌≤◌, length, drop};
 ghost use Rattle.std.proofs.lemmas.List.Edits.{sets};
-ghost use Rattle.frames.specs.Number.{mostNumber};
-ghost use Rattle.frames.specs.Header.{headerFollows};
-ghost use Rattle.frames.specs.Token.{tokenBytes};
-ghost use Rattle.record.specs.Bytes.{recordBytes};
-ghost use Rattle.record.specs.inner.Head.{logOn, recordIn, contentsIn};
+ghost use Rattle.frames.specs.Number.{most_number};
+ghost use Rattle.frames.specs.Header.{header_follows};
+ghost use Rattle.frames.specs.Token.{token_bytes};
+ghost use Rattle.record.specs.Bytes.{record_bytes};
+ghost use Rattle.record.specs.inner.Head.{log_on, record_in, contents_in};
 ghost use Rattle.record.specs.Held.{let_go};
-ghost use Rattle.record.specs.Layout.{recordSize, log_at, turnAt};
-ghost use Rattle.record.specs.Parts.{withParts};
+ghost use Rattle.record.specs.Layout.{record_size, log_at, turn_at};
+ghost use Rattle.record.specs.Parts.{with_parts};
 ghost use Rattle.record.specs.Posts.{taken};
-ghost use Rattle.record.specs.Size.{mostPosts};
+ghost use Rattle.record.specs.Size.{most_posts};
 ghost use Rattle.record.proofs.WholeFacts.{LogGood};
-ghost use Rattle.visit.specs.Output.{followedBy, mostFrames, mostDeliveries};
-ghost use Rattle.visit.specs.Deliver.{ringHeader, joined, handedOut, delivered};
-ghost use Rattle.visit.specs.Visit.{logNow, token', rec', written, handed, visitedOf};
+ghost use Rattle.visit.specs.Output.{followed_by, most_frames, most_deliveries};
+ghost use Rattle.visit.specs.Deliver.{ring_header, joined, handed_out, delivered};
+ghost use Rattle.visit.specs.Visit.{log_now, token', rec', written, handed, visited_of};
 ghost use Rattle.visit.specs.Acceptable.{Acceptable, visit};
-ghost use Rattle.visit.specs.inner.Steps.{newFrames, sentOf, forwardedOf};
+ghost use Rattle.visit.specs.inner.Steps.{new_frames, sent_of, forwarded_of};
 
 use crate::broadcasting::Sent;
 use crate::forwarding::Forwarded;
@@ -36,17 +36,17 @@ pub struct Visited {
 // The new messages' contents move, and their frames and the token's are written out behind the repeats'. How many
 // bytes are written in all.
 fn send_new(h: Head, s: &mut [u8], t: Token, b: Sent, f: Forwarded, out: &mut [u8]) -> usize
-    requires { Acceptable (visit (recordIn h s.old) t)
-        × (b ≡ sentOf (visit (recordIn h s.old) t))
-        × (f ≡ forwardedOf (visit (recordIn h s.old) t))
-        × (length s.old ≡ recordSize)
-        × (mostFrames ≤ length out.old) }
-    ensures { (result ≡ length (joined (written (visit (recordIn h s.old) t))))
-        × (logOn b.log (contentsIn s.new log_at) ≡ logNow (visit (recordIn h s.old) t))
-        × (drop turnAt s.new ≡ drop turnAt s.old)
+    requires { Acceptable (visit (record_in h s.old) t)
+        × (b ≡ sent_of (visit (record_in h s.old) t))
+        × (f ≡ forwarded_of (visit (record_in h s.old) t))
+        × (length s.old ≡ record_size)
+        × (most_frames ≤ length out.old) }
+    ensures { (result ≡ length (joined (written (visit (record_in h s.old) t))))
+        × (log_on b.log (contents_in s.new log_at) ≡ log_now (visit (record_in h s.old) t))
+        × (drop turn_at s.new ≡ drop turn_at s.old)
         × (out.new ≡ sets out.old b.size
-        (joined (newFrames (visit (recordIn h s.old) t))
-        ++ tokenBytes (token' (visit (recordIn h s.old) t)))) }
+        (joined (new_frames (visit (record_in h s.old) t))
+        ++ token_bytes (token' (visit (record_in h s.old) t)))) }
 {
     new_messages::place_new(s, h.posts, t.highest, b.added);
     let at = held_frames::put_run(
@@ -64,21 +64,21 @@ fn send_new(h: Head, s: &mut [u8], t: Token, b: Sent, f: Forwarded, out: &mut [u
 // 9. Deliver, then let go; the posts that were sent wait no longer; the record is stored. The head has the
 // log and the turn that are left, and the posts that waited. How many bytes are delivered.
 fn finish(h: Head, s: &mut [u8], safe: MessageNumber, added: u8, deliveries: &mut [u8]) -> usize
-    requires { (length s.old ≡ recordSize)
-        × LogGood (recordIn h s.old).log
-        × (headerFollows (ringHeader (recordIn h s.old).log) ≡ true)
+    requires { (length s.old ≡ record_size)
+        × LogGood (record_in h s.old).log
+        × (header_follows (ring_header (record_in h s.old).log) ≡ true)
         × (h.log.safe.0 ≤ safe.0)
-        × (safe.0 ≤ mostNumber)
+        × (safe.0 ≤ most_number)
         × (added ≤ h.posts.count)
-        × (h.posts.count ≤ mostPosts)
-        × (mostDeliveries ≤ length deliveries.old) }
-    ensures { (result ≡ length (handedOut (recordIn h s.old).log safe.0))
-        × (s.new ≡ recordBytes (withParts (recordIn h s.old)
-        (let_go (delivered (recordIn h s.old).log safe.0) safe.0)
+        × (h.posts.count ≤ most_posts)
+        × (most_deliveries ≤ length deliveries.old) }
+    ensures { (result ≡ length (handed_out (record_in h s.old).log safe.0))
+        × (s.new ≡ record_bytes (with_parts (record_in h s.old)
+        (let_go (delivered (record_in h s.old).log safe.0) safe.0)
         h.turn
-        (taken (recordIn h s.old).posts added)))
-        × (deliveries.new ≡ followedBy
-        (handedOut (recordIn h s.old).log safe.0)
+        (taken (record_in h s.old).posts added)))
+        × (deliveries.new ≡ followed_by
+        (handed_out (record_in h s.old).log safe.0)
         deliveries.old) }
 {
     let handed = delivering::hand_out(h.log, record::contents_in(s), safe, deliveries);
@@ -95,17 +95,17 @@ fn finish(h: Head, s: &mut [u8], safe: MessageNumber, added: u8, deliveries: &mu
 // A token that passes 2 and 10 to 18, at a record in these bytes with this head. Ruled out: a good first visit
 // and mere forwarding later; a delivery that is let go before it is handed out.
 pub fn accept(h: Head, s: &mut [u8], t: Token, frames: &mut [u8], deliveries: &mut [u8]) -> Visited
-    requires { Acceptable (visit (recordIn h s.old) t)
-        × (length s.old ≡ recordSize)
-        × (mostFrames ≤ length frames.old)
-        × (mostDeliveries ≤ length deliveries.old) }
-    ensures { (result ≡ visitedOf (visit (recordIn h s.old) t))
-        × (s.new ≡ recordBytes (rec' (visit (recordIn h s.old) t)))
-        × (frames.new ≡ followedBy
-        (joined (written (visit (recordIn h s.old) t)))
+    requires { Acceptable (visit (record_in h s.old) t)
+        × (length s.old ≡ record_size)
+        × (most_frames ≤ length frames.old)
+        × (most_deliveries ≤ length deliveries.old) }
+    ensures { (result ≡ visited_of (visit (record_in h s.old) t))
+        × (s.new ≡ record_bytes (rec' (visit (record_in h s.old) t)))
+        × (frames.new ≡ followed_by
+        (joined (written (visit (record_in h s.old) t)))
         frames.old)
-        × (deliveries.new ≡ followedBy
-        (handed (visit (recordIn h s.old) t))
+        × (deliveries.new ≡ followed_by
+        (handed (visit (record_in h s.old) t))
         deliveries.old) }
 {
     let b = broadcasting::broadcast(h, s, t, frames);

@@ -8,7 +8,7 @@ use native.Mathlib.Omega.{arith}
 use lib.ListN.{length, get_or, set, take, drop, length-append, length-set, length-drop, drop_of_length-le}
 use lib.Seq.{sets, drop-cons, drop-drop, take_at, drop_at, length-sets}
 use Rattle.words.specs.Word.{Bytes, word_bytes, word_at}
-use Rattle.words.specs.Run.{words, wordsBytes}
+use Rattle.words.specs.Run.{words, words_bytes}
 use Rattle.words.proofs.WordLaws.{length_part, length-word, word_back, word_split, bytes_drop}
 use Rattle.words.proofs.StoreLaws.{sets-append, front-stored}
 
@@ -19,25 +19,25 @@ unfolding words
 length-words w zero s = refl
 length-words w (suc n) s = ap suc (length-words w n (drop w s))
 
-pub length-words-bytes : (w : ℕ) (xs : List ℕ) → length (wordsBytes w xs) ≡ w * length xs
-unfolding wordsBytes
+pub length-words-bytes : (w : ℕ) (xs : List ℕ) → length (words_bytes w xs) ≡ w * length xs
+unfolding words_bytes
 length-words-bytes w [] = sym (mul-zero w)
 length-words-bytes w (x ∷ xs) = rw (length-append, length-word, length-words-bytes w xs) (omega arith)
 
 -- ---- round trips
 
 -- storing and reading restores the numbers, whatever stands after them
-pub words_back : (w : ℕ) (xs rest : List ℕ) → ((i : ℕ) → get_or xs i 0 < 256 ^ w) → words w (length xs) (wordsBytes w xs ++ rest) ≡ xs
-unfolding words wordsBytes word_at
+pub words_back : (w : ℕ) (xs rest : List ℕ) → ((i : ℕ) → get_or xs i 0 < 256 ^ w) → words w (length xs) (words_bytes w xs ++ rest) ≡ xs
+unfolding words words_bytes word_at
 words_back w [] rest h = refl
 words_back w (x ∷ xs) rest h =
-    let first : take w (word_bytes w x ++ (wordsBytes w xs ++ rest)) ≡ word_bytes w x = take_at (word_bytes w x) _ w (length-word w x) in
-    let after : drop w (word_bytes w x ++ (wordsBytes w xs ++ rest)) ≡ wordsBytes w xs ++ rest = drop_at (word_bytes w x) _ w (length-word w x) in
+    let first : take w (word_bytes w x ++ (words_bytes w xs ++ rest)) ≡ word_bytes w x = take_at (word_bytes w x) _ w (length-word w x) in
+    let after : drop w (word_bytes w x ++ (words_bytes w xs ++ rest)) ≡ words_bytes w xs ++ rest = drop_at (word_bytes w x) _ w (length-word w x) in
     rw (append_assoc, first, after, word_back w x (h zero), words_back w xs rest (λ i. h (suc i)))
 
 -- reading and storing restores the bytes
-pub words-there : (w n : ℕ) (s : List ℕ) → Bytes s → w * n ≤ length s → wordsBytes w (words w n s) ++ drop (w * n) s ≡ s
-unfolding words wordsBytes
+pub words-there : (w n : ℕ) (s : List ℕ) → Bytes s → w * n ≤ length s → words_bytes w (words w n s) ++ drop (w * n) s ≡ s
+unfolding words words_bytes
 words-there w zero s b h = rw mul-zero
 words-there w (suc n) s b h =
     let e : w * suc n ≡ w + w * n = omega arith in
@@ -90,7 +90,7 @@ reading-ends w n at s out₀ i out r h room =
 pub record Storing (w at : ℕ) (xs out₀ : List ℕ) (i : ℕ) (out : List ℕ) : Type 0 where
   pub within : i ≤ length xs
   pub size : length out ≡ length out₀
-  pub rest : sets out (at + w * i) (wordsBytes w (drop i xs)) ≡ sets out₀ at (wordsBytes w xs)
+  pub rest : sets out (at + w * i) (words_bytes w (drop i xs)) ≡ sets out₀ at (words_bytes w xs)
 
 pub storing-starts : (w at : ℕ) (xs out₀ : List ℕ) → Storing w at xs out₀ 0 out₀
 storing-starts w at xs out₀ = record { within = omega arith; size = refl; rest = rw (mul-zero, add-zero) }
@@ -100,7 +100,7 @@ pub storing-goes : (w at : ℕ) (xs out₀ : List ℕ) (i : ℕ) (out out' : Lis
     → i < length xs
     → out' ≡ sets out (at + w * i) (word_bytes w (get_or xs i 0))
     → Storing w at xs out₀ (i + 1) out'
-unfolding wordsBytes
+unfolding words_bytes
 storing-goes w at xs out₀ i out out' r h e =
     let next : at + w * i + w ≡ at + w * (i + 1) = omega arith in
     record {
@@ -109,8 +109,8 @@ storing-goes w at xs out₀ i out out' r h e =
       rest = rw (e, add-one i) (rw (drop-cons xs i 0 h, sets-append, length-word, next, add-one i) at r.rest);
     }
 
-pub storing-ends : (w at : ℕ) (xs out₀ : List ℕ) (i : ℕ) (out : List ℕ) → Storing w at xs out₀ i out → length xs ≤ i → out ≡ sets out₀ at (wordsBytes w xs)
-unfolding wordsBytes
+pub storing-ends : (w at : ℕ) (xs out₀ : List ℕ) (i : ℕ) (out : List ℕ) → Storing w at xs out₀ i out → length xs ≤ i → out ≡ sets out₀ at (words_bytes w xs)
+unfolding words_bytes
 storing-ends w at xs out₀ i out r h = rw (drop_of_length-le xs h) at r.rest
 
 -- ---- a loop that copies bytes into out₀ from `at` on

@@ -9,7 +9,7 @@ use native.Mathlib.Omega.{arith}
 use lib.ListN.{length, get_or, take, drop, replicate, length-drop, drop_of_length-le}
 use lib.Dec.{leb}
 use lib.Seq.{drop-cons, take_all}
-use Rattle.words.specs.Scan.{every, allWithin, allZero}
+use Rattle.words.specs.Scan.{every, all_within, all_zero}
 
 -- the elements before i have passed
 pub record Scanning (test : ℕ → List ℕ → Bool) (s : List ℕ) (i : ℕ) : Type 0 where
@@ -70,8 +70,8 @@ module _ (test : ℕ → List ℕ → Bool) (s : List ℕ) (good : Bool) (i : �
   gather-ends h = all_found good ∙ rw (drop_of_length-le s h) at so_far.rest
 
 -- a part to the end, as the code spells it
-pub to_end : (s : List ℕ) (i : ℕ) → take (length s - i) (drop i s) ≡ drop i s
-to_end s i = take_all (length s - i) (drop i s) (simp length-drop (omega arith))
+pub to-end : (s : List ℕ) (i : ℕ) → take (length s - i) (drop i s) ≡ drop i s
+to-end s i = take_all (length s - i) (drop i s) (simp length-drop (omega arith))
 
 -- ---- what a scan that passed tells
 
@@ -86,15 +86,15 @@ rest-passes false b e = absurd (not-both e)
     not-both : false ≡ true → ⊥
     not-both q = let z : ◌≡◌ {A = ℕ} 0 1 = cc in omega arith
 
-pub within-most : (low high : ℕ) (s : List ℕ) → allWithin low high s ≡ true → (i : ℕ) → get_or s i 0 ≤ high
+pub within-most : (low high : ℕ) (s : List ℕ) → all_within low high s ≡ true → (i : ℕ) → get_or s i 0 ≤ high
 unfolding every
 within-most low high [] e i = omega arith
-within-most low high (x ∷ s) e zero = leb-true x high (rest-passes (leb low x) (leb x high) (first_passes (leb low x && leb x high) (allWithin low high s) e))
-within-most low high (x ∷ s) e (suc i) = within-most low high s (rest-passes (leb low x && leb x high) (allWithin low high s) e) i
+within-most low high (x ∷ s) e zero = leb-true x high (rest-passes (leb low x) (leb x high) (first_passes (leb low x && leb x high) (all_within low high s) e))
+within-most low high (x ∷ s) e (suc i) = within-most low high s (rest-passes (leb low x && leb x high) (all_within low high s) e) i
 
-pub zeros-are : (s : List ℕ) → allZero s ≡ true → s ≡ replicate (length s) 0
+pub zeros-are : (s : List ℕ) → all_zero s ≡ true → s ≡ replicate (length s) 0
 unfolding every
 zeros-are [] e = refl
 zeros-are (x ∷ s) e =
     let none : x ≡ 0 = omega (arith, within-most 0 0 (x ∷ s) e 0) in
-    rw (none, ← zeros-are s (rest-passes (leb 0 x && leb x 0) (allZero s) e))
+    rw (none, ← zeros-are s (rest-passes (leb 0 x && leb x 0) (all_zero s) e))

@@ -5,7 +5,7 @@ use mathlib.Core.List.{List, [], ◌∷◌, ◌++◌, append_assoc}
 use native.Mathlib.Nat.{add-zero, add-suc, suc-add, zero-add}
 use native.Mathlib.Omega.{arith}
 use lib.ListN.{length, set, take, drop, length-append, length-drop, take-append-drop}
-use Rattle.words.proofs.ScanLaws.{to_end}
+use Rattle.words.proofs.ScanLaws.{to-end}
 use lib.Seq.{sets, sets-eq, length-sets, take_at, drop_at, take-add, drop-drop, length-take-le, take_all, take-append-le}
 
 pub sets-append : (a b l : List ℕ) (i : ℕ) → sets l i (a ++ b) ≡ sets (sets l i a) (i + length a) b
@@ -97,7 +97,7 @@ pub piece-goes : (l xs l₁ l₂ : List ℕ) (at i k : ℕ)
     → l₁ ≡ sets l at (take i xs)
     → l₂ ≡ sets l₁ (at + i) (take k (take (length xs - i) (drop i xs)))
     → l₂ ≡ sets l at (take (i + k) xs)
-piece-goes l xs l₁ l₂ at i k h e f = next-piece l xs l₂ at i k h (f ∙ rw (e, to_end xs i))
+piece-goes l xs l₁ l₂ at i k h e f = next-piece l xs l₂ at i k h (f ∙ rw (e, to-end xs i))
 
 pub piece-ends : (l xs l₁ l₂ : List ℕ) (at i k : ℕ)
     → k ≤ length xs
@@ -110,4 +110,4 @@ pub piece-ends : (l xs l₁ l₂ : List ℕ) (at i k : ℕ)
 piece-ends l xs l₁ l₂ at i k few h near room e f =
     let m = length xs - k in
     let all : take k (drop m xs) ≡ drop m xs = take_all k (drop m xs) (rw length-drop (omega arith)) in
-    f ∙ rw (e, to_end xs m, all) (overlap l xs at i m (omega arith) h room)
+    f ∙ rw (e, to-end xs m, all) (overlap l xs at i m (omega arith) h room)

@@ -8,6 +8,6 @@ words w zero s = []
 words w (suc n) s = word_at w s 0 ∷ words w n (drop w s)
 
 -- the bytes of words of w bytes
-unfoldable pub wordsBytes : ℕ → List ℕ → List ℕ
-wordsBytes w [] = []
-wordsBytes w (x ∷ xs) = word_bytes w x ++ wordsBytes w xs
+unfoldable pub words_bytes : ℕ → List ℕ → List ℕ
+words_bytes w [] = []
+words_bytes w (x ∷ xs) = word_bytes w x ++ words_bytes w xs

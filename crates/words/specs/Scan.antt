@@ -7,11 +7,11 @@ every test [] = true
 every test (x ∷ xs) = test x xs && every test xs
 
 -- all are from low to high
-abbrev pub allWithin : ℕ → ℕ → List ℕ → Bool
-allWithin low high = every (λ x after. leb low x && leb x high)
+abbrev pub all_within : ℕ → ℕ → List ℕ → Bool
+all_within low high = every (λ x after. leb low x && leb x high)
 
-abbrev pub allZero : List ℕ → Bool
-allZero = allWithin 0 0
+abbrev pub all_zero : List ℕ → Bool
+all_zero = all_within 0 0
 
 -- x is not among them
 abbrev pub lacks : List ℕ → ℕ → Bool

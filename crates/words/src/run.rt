@@ -2,7 +2,7 @@
 // word too few; a place past the run changed.
 ghost use Rattle.std.specs.Prelude.{◌≡◌, ◌++◌, ◌+◌, ◌*◌, ◌≤◌, ◌<◌, length, take, drop};
 ghost use Rattle.std.proofs.lemmas.List.Edits.{sets};
-ghost use Rattle.words.specs.Run.{words, wordsBytes};
+ghost use Rattle.words.specs.Run.{words, words_bytes};
 
 use crate::word::{get_u16, get_u32, put_u16, put_u32};
 
@@ -113,7 +113,7 @@ pub fn put_many(out: &mut [u8], at: usize, xs: &[u8])
 
 pub fn put_u16s(out: &mut [u8], at: usize, xs: &[u16])
     requires { at + 2 * length xs.now ≤ length out.old }
-    ensures { out.new ≡ sets out.old at (wordsBytes 2 xs.now) }
+    ensures { out.new ≡ sets out.old at (words_bytes 2 xs.now) }
 {
     let mut i = 0;
     while i < xs.len() {
@@ -124,7 +124,7 @@ pub fn put_u16s(out: &mut [u8], at: usize, xs: &[u16])
 
 pub fn put_u32s(out: &mut [u8], at: usize, xs: &[u32])
     requires { at + 4 * length xs.now ≤ length out.old }
-    ensures { out.new ≡ sets out.old at (wordsBytes 4 xs.now) }
+    ensures { out.new ≡ sets out.old at (words_bytes 4 xs.now) }
 {
     let mut i = 0;
     while i < xs.len() {

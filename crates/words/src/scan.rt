@@ -2,10 +2,10 @@
 // looked at; a bound itself refused. A test of ranges looks at every element, with no way out of the loop,
 // so that the compiler can test many at once.
 ghost use Rattle.std.specs.Prelude.{◌≡◌};
-ghost use Rattle.words.specs.Scan.{allWithin, allZero, lacks, distinct};
+ghost use Rattle.words.specs.Scan.{all_within, all_zero, lacks, distinct};
 
 pub fn all_within_u8(s: &[u8], low: u8, high: u8) -> bool
-    ensures { result ≡ allWithin low high s.now }
+    ensures { result ≡ all_within low high s.now }
 {
     let mut good = true;
     let mut i = 0;
@@ -18,13 +18,13 @@ pub fn all_within_u8(s: &[u8], low: u8, high: u8) -> bool
 }
 
 pub fn all_zero_u8(s: &[u8]) -> bool
-    ensures { result ≡ allZero s.now }
+    ensures { result ≡ all_zero s.now }
 {
     all_within_u8(s, 0, 0)
 }
 
 pub fn all_within_u16(s: &[u16], low: u16, high: u16) -> bool
-    ensures { result ≡ allWithin low high s.now }
+    ensures { result ≡ all_within low high s.now }
 {
     let mut good = true;
     let mut i = 0;
@@ -37,13 +37,13 @@ pub fn all_within_u16(s: &[u16], low: u16, high: u16) -> bool
 }
 
 pub fn all_zero_u16(s: &[u16]) -> bool
-    ensures { result ≡ allZero s.now }
+    ensures { result ≡ all_zero s.now }
 {
     all_within_u16(s, 0, 0)
 }
 
 pub fn all_within_u32(s: &[u32], low: u32, high: u32) -> bool
-    ensures { result ≡ allWithin low high s.now }
+    ensures { result ≡ all_within low high s.now }
 {
     let mut good = true;
     let mut i = 0;
@@ -56,7 +56,7 @@ pub fn all_within_u32(s: &[u32], low: u32, high: u32) -> bool
 }
 
 pub fn all_zero_u32(s: &[u32]) -> bool
-    ensures { result ≡ allZero s.now }
+    ensures { result ≡ all_zero s.now }
 {
     all_within_u32(s, 0, 0)
 }

@@ -2,8 +2,8 @@
 use Rattle.std.specs.Prelude.{ℕ, ◌<◌, ◌≡◌, cond, List, [], ◌∷◌, ◌⊎◌, get_or, eqb}
 use Rattle.std.proofs.Math.Option.{Option, none, some}
 use Rattle.ordering.specs.inner.Frame.{Message, Token, Frame, message, token}
-use Rattle.ordering.specs.inner.Station.{Station, keeps, heard, handedWith}
-use Rattle.ordering.specs.inner.Visit.{Choice, Allowed, tokenAfter, handedAfter, visited, visitWrites}
+use Rattle.ordering.specs.inner.Station.{Station, keeps, heard, handed_with}
+use Rattle.ordering.specs.inner.Visit.{Choice, Allowed, token_after, handed_after, visited, visit_writes}
 use Rattle.ordering.specs.inner.History.{Event, OnCable}
 
 pub data Call : Type 0 where
@@ -12,11 +12,11 @@ pub data Call : Type 0 where
   visiting : ℕ → Token → Choice → Call
   resending : ℕ → Call
 
-abbrev pub stationOf : Call → ℕ
-stationOf (quiet p) = p
-stationOf (hearing p x) = p
-stationOf (visiting p t c) = p
-stationOf (resending p) = p
+abbrev pub station_of : Call → ℕ
+station_of (quiet p) = p
+station_of (hearing p x) = p
+station_of (visiting p t c) = p
+station_of (resending p) = p
 
 -- the station afterwards
 abbrev pub moved : Station → Call → Station
@@ -25,16 +25,16 @@ moved s (hearing p x) = heard s x
 moved s (visiting p t c) = visited s t c
 moved s (resending p) = s
 
-abbrev pub resendWrites : Option Token → List Frame
-resendWrites none = []
-resendWrites (some t) = token t ∷ []
+abbrev pub resend_writes : Option Token → List Frame
+resend_writes none = []
+resend_writes (some t) = token t ∷ []
 
 -- what the call did
 abbrev pub event : Station → Call → Event
 event s (quiet p) = record { place = p; kept = none; forwarded = none; written = []; handed = [] }
-event s (hearing p x) = record { place = p; kept = cond (keeps s x) (some x) none; forwarded = none; written = []; handed = handedWith s x }
-event s (visiting p t c) = record { place = p; kept = none; forwarded = some (tokenAfter s t c); written = visitWrites s t c; handed = handedAfter s t c }
-event s (resending p) = record { place = p; kept = none; forwarded = none; written = resendWrites s.resendable; handed = [] }
+event s (hearing p x) = record { place = p; kept = cond (keeps s x) (some x) none; forwarded = none; written = []; handed = handed_with s x }
+event s (visiting p t c) = record { place = p; kept = none; forwarded = some (token_after s t c); written = visit_writes s t c; handed = handed_after s t c }
+event s (resending p) = record { place = p; kept = none; forwarded = none; written = resend_writes s.resendable; handed = [] }
 
 pub record Ring : Type 0 where
   pub at : ℕ → Station
@@ -46,8 +46,8 @@ update p s f q = cond (eqb q p) s (f q)
 unfoldable pub step : Ring → Call → Ring
 step r c =
     record {
-      at = update (stationOf c) (moved (r.at (stationOf c)) c) r.at;
-      history = event (r.at (stationOf c)) c ∷ r.history;
+      at = update (station_of c) (moved (r.at (station_of c)) c) r.at;
+      history = event (r.at (station_of c)) c ∷ r.history;
     }
 
 unfoldable pub run : Ring → List Call → Ring
@@ -64,8 +64,8 @@ abbrev pub start : List ℕ → Ring
 start members = record { at = fresh members; history = [] }
 
 -- the ring's first token; its text is any
-abbrev pub foundingToken : List ℕ → List ℕ → Token
-foundingToken members text =
+abbrev pub founding_token : List ℕ → List ℕ → Token
+founding_token members text =
     record { number = 1; addressee = get_or members 0 0; highest = 0; aru = 0; blocker = none; text = text }
 
 -- ---- what may be called: at a member's place, with what is on the cable
@@ -90,5 +90,5 @@ AllPossible size first r (c ∷ cs) = Possible size first r c × AllPossible siz
 abbrev pub AcceptedIn : ℕ → Ring → List Call → Type 0
 AcceptedIn p r [] = ⊥
 AcceptedIn p r (c ∷ cs) =
-    ((stationOf c ≡ p) × ((t : Token) × ((event (r.at (stationOf c)) c).forwarded ≡ some t)))
+    ((station_of c ≡ p) × ((t : Token) × ((event (r.at (station_of c)) c).forwarded ≡ some t)))
     ⊎ AcceptedIn p (step r c) cs

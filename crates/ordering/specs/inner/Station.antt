@@ -48,8 +48,8 @@ unfoldable pub reached : (ℕ → Bool) → ℕ → ℕ → ℕ
 reached has zero level = level
 reached has (suc n) level = cond (has (suc level)) (reached has n (suc level)) level
 
-abbrev pub levelOf : Store → ℕ → ℕ
-levelOf h level = reached (λ n. given (h n)) window level
+abbrev pub level_of : Store → ℕ → ℕ
+level_of h level = reached (λ n. given (h n)) window level
 
 -- ---- deliver: n numbers from d + 1 on, while each is agreed or at most the safe mark
 
@@ -67,26 +67,26 @@ due h safe (suc n) d =
 unfoldable pub keeps : Station → Message → Bool
 keeps s x = ltb s.safe x.number && leb x.number (s.safe + window) && not (given (s.held x.number))
 
-abbrev pub heldWith : Station → Message → Store
-heldWith s x = cond (keeps s x) (put x s.held) s.held
+abbrev pub held_with : Station → Message → Store
+held_with s x = cond (keeps s x) (put x s.held) s.held
 
-abbrev pub levelWith : Station → Message → ℕ
-levelWith s x = levelOf (heldWith s x) s.level
+abbrev pub level_with : Station → Message → ℕ
+level_with s x = level_of (held_with s x) s.level
 
 -- what is delivered then
-unfoldable pub handedWith : Station → Message → List Message
-handedWith s x = due (heldWith s x) s.safe (levelWith s x - s.delivered) s.delivered
+unfoldable pub handed_with : Station → Message → List Message
+handed_with s x = due (held_with s x) s.safe (level_with s x - s.delivered) s.delivered
 
 unfoldable pub heard : Station → Message → Station
 heard s x =
     record {
       members = s.members;
       own = s.own;
-      level = levelWith s x;
+      level = level_with s x;
       safe = s.safe;
-      delivered = s.delivered + length (handedWith s x);
+      delivered = s.delivered + length (handed_with s x);
       aru = s.aru;
       last = s.last;
       resendable = none;
-      held = heldWith s x;
+      held = held_with s x;
     }

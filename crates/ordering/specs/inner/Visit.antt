@@ -4,7 +4,7 @@ use Rattle.std.specs.Prelude.{ℕ, suc, ◌+◌, ◌-◌, min, max, ◌≤◌, �
 use Rattle.std.proofs.Math.Option.{Option, none, some}
 use Rattle.ordering.specs.Lists.{Among}
 use Rattle.ordering.specs.inner.Frame.{Message, Token, Frame, message, token}
-use Rattle.ordering.specs.inner.Station.{Store, Station, window, put_all, release, levelOf, due}
+use Rattle.ordering.specs.inner.Station.{Store, Station, window, put_all, release, level_of, due}
 
 pub record Choice : Type 0 where
   pub repeats : List Message
@@ -26,72 +26,72 @@ pub record Allowed (s : Station) (t : Token) (c : Choice) : Type 0 where
   pub few : t.highest + length c.added ≤ max t.highest (s.safe + window)
 
 -- the member after `own`; after the last comes the first
-unfoldable pub nextIn : ℕ → List ℕ → ℕ → ℕ
-nextIn first [] own = first
-nextIn first (x ∷ xs) own = cond (eqb x own) (get_or xs 0 first) (nextIn first xs own)
+unfoldable pub next_in : ℕ → List ℕ → ℕ → ℕ
+next_in first [] own = first
+next_in first (x ∷ xs) own = cond (eqb x own) (get_or xs 0 first) (next_in first xs own)
 
 abbrev pub next : List ℕ → ℕ → ℕ
-next members own = nextIn (get_or members 0 0) members own
+next members own = next_in (get_or members 0 0) members own
 
 module _ (s : Station) (t : Token) (c : Choice) where
   -- 3
-  abbrev pub heldAfter : Store
-  heldAfter = put_all c.added s.held
+  abbrev pub held_after : Store
+  held_after = put_all c.added s.held
 
-  abbrev pub highestAfter : ℕ
-  highestAfter = t.highest + length c.added
+  abbrev pub highest_after : ℕ
+  highest_after = t.highest + length c.added
 
-  abbrev pub levelAfter : ℕ
-  levelAfter = levelOf heldAfter s.level
+  abbrev pub level_after : ℕ
+  level_after = level_of held_after s.level
 
   -- 4: the level is below aru, or the blocker is oneself or nobody
-  abbrev pub own-or-nobody : Option ℕ → Bool
-  own-or-nobody none = true
-  own-or-nobody (some id) = eqb id s.own
+  abbrev pub own_or_nobody : Option ℕ → Bool
+  own_or_nobody none = true
+  own_or_nobody (some id) = eqb id s.own
 
   abbrev pub lowers : Bool
-  lowers = ltb levelAfter t.aru || own-or-nobody t.blocker
+  lowers = ltb level_after t.aru || own_or_nobody t.blocker
 
-  unfoldable pub aruAfter : ℕ
-  aruAfter = cond lowers levelAfter t.aru
+  unfoldable pub aru_after : ℕ
+  aru_after = cond lowers level_after t.aru
 
-  unfoldable pub blockerAfter : Option ℕ
-  blockerAfter = cond lowers (cond (eqb levelAfter highestAfter) none (some s.own)) t.blocker
+  unfoldable pub blocker_after : Option ℕ
+  blocker_after = cond lowers (cond (eqb level_after highest_after) none (some s.own)) t.blocker
 
   -- 6
-  unfoldable pub safeAfter : ℕ
-  safeAfter = max s.safe (min s.aru aruAfter)
+  unfoldable pub safe_after : ℕ
+  safe_after = max s.safe (min s.aru aru_after)
 
   -- 8
-  unfoldable pub tokenAfter : Token
-  tokenAfter =
+  unfoldable pub token_after : Token
+  token_after =
       record {
         number = suc t.number;
         addressee = next s.members s.own;
-        highest = highestAfter;
-        aru = aruAfter;
-        blocker = blockerAfter;
+        highest = highest_after;
+        aru = aru_after;
+        blocker = blocker_after;
         text = c.text;
       }
 
   -- 9
-  unfoldable pub handedAfter : List Message
-  handedAfter = due heldAfter safeAfter (levelAfter - s.delivered) s.delivered
+  unfoldable pub handed_after : List Message
+  handed_after = due held_after safe_after (level_after - s.delivered) s.delivered
 
   unfoldable pub visited : Station
   visited =
       record {
         members = s.members;
         own = s.own;
-        level = levelAfter;
-        safe = safeAfter;
-        delivered = s.delivered + length handedAfter;
-        aru = aruAfter;
+        level = level_after;
+        safe = safe_after;
+        delivered = s.delivered + length handed_after;
+        aru = aru_after;
         last = suc t.number;
-        resendable = some tokenAfter;
-        held = release safeAfter heldAfter;
+        resendable = some token_after;
+        held = release safe_after held_after;
       }
 
   -- repeats, new messages, token
-  unfoldable pub visitWrites : List Frame
-  visitWrites = map message c.repeats ++ map message c.added ++ (token tokenAfter ∷ [])
+  unfoldable pub visit_writes : List Frame
+  visit_writes = map message c.repeats ++ map message c.added ++ (token token_after ∷ [])

@@ -4,11 +4,11 @@ use mathlib.Core.Path.{◌≡◌}
 use mathlib.Core.List.{List}
 use lib.ListN.{length}
 use Rattle.record.specs.Lent.{lent}
-use Rattle.station.specs.Answer.{outcomeOf}
+use Rattle.station.specs.Answer.{outcome_of}
 use Rattle.station.proofs.ArrivedGood.{arrived-good}
-use Rattle.station.specs.Over.{arriveOver}
+use Rattle.station.specs.Over.{arrive_over}
 
 -- the count of deliveries is that of their bytes
-pub counted : (s frame : List ℕ) (frames deliveries : ℕ) → (outcomeOf (arriveOver s frame frames deliveries).answer).deliveries ≡ length (arriveOver s frame frames deliveries).deliveries
-unfolding arriveOver
+pub counted : (s frame : List ℕ) (frames deliveries : ℕ) → (outcome_of (arrive_over s frame frames deliveries).answer).deliveries ≡ length (arrive_over s frame frames deliveries).deliveries
+unfolding arrive_over
 counted s frame frames deliveries = (arrived-good (lent s) frame frames deliveries).1.1

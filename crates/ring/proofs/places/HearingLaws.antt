@@ -6,14 +6,14 @@ use mathlib.Core.List.{List, [], ◌∷◌, ◌++◌, append_assoc, append-nil}
 use native.Mathlib.Omega.{arith}
 use lib.ListN.{length, take, drop, length-append, length-take, length-drop, take-append-drop, drop_of_length-le}
 use lib.Seq.{take_all, take_at, length-take-le, drop-drop, drop-append-add}
-use Rattle.frames.specs.Header.{ownSize}
+use Rattle.frames.specs.Header.{own_size}
 use Rattle.frames.specs.Read.{read_of}
-use Rattle.station.specs.Answer.{outcomeOf}
+use Rattle.station.specs.Answer.{outcome_of}
 use Rattle.station.specs.Reply.{Reply}
-use Rattle.visit.specs.Output.{followedBy, mostFrames}
-use Rattle.visit.specs.Within.{framesIn}
+use Rattle.visit.specs.Output.{followed_by, most_frames}
+use Rattle.visit.specs.Within.{frames_in}
 use Rattle.station.specs.declared.answer.Outcome.{Outcome}
-use Rattle.ring.specs.Stations.{recordAt, withRecord, recordsAfter, arrivedAt, isMessage, HeardThere, hears, hearsMessage, heardSoFar, Reached, hearsAll, heardAt}
+use Rattle.ring.specs.Stations.{record_at, with_record, records_after, arrived_at, is_message, HeardThere, hears, hears_message, heard_so_far, Reached, hears_all, heard_at}
 use Rattle.ring.proofs.places.PlaceLaws.{with-same, at_with, with-with}
 use Rattle.ring.proofs.places.CutLaws.{cut_at, cut-none}
 use Rattle.ring.proofs.places.ArriveLaws.{counted}
@@ -21,13 +21,13 @@ use Rattle.ring.proofs.places.ArriveLaws.{counted}
 -- ---- a buffer of bytes joined
 
 -- more bytes behind the first ones
-joined-more : (at : ℕ) (x d : List ℕ) → at ≤ length d → take at d ++ (x ++ drop (length x) (drop at d)) ≡ followedBy (take at d ++ x) d
+joined-more : (at : ℕ) (x d : List ℕ) → at ≤ length d → take at d ++ (x ++ drop (length x) (drop at d)) ≡ followed_by (take at d ++ x) d
 joined-more at x d h =
     let n : length (take at d ++ x) ≡ at + length x = rw (length-append, length-take-le at d h) in
     rw (n, ← drop-drop (length x) at d, append_assoc)
 
 -- joined anew over what was joined
-joined-again : (a b d : List ℕ) → length a ≤ length b → followedBy b (followedBy a d) ≡ followedBy b d
+joined-again : (a b d : List ℕ) → length a ≤ length b → followed_by b (followed_by a d) ≡ followed_by b d
 joined-again a b d h =
     let n : length b ≡ length a + (length b - length a) = omega arith in
     ap (λ (l : List ℕ). b ++ l) (rw (n, drop-append-add, drop-drop))
@@ -35,7 +35,7 @@ joined-again a b d h =
 -- ---- one frame
 
 module _ (p : ℕ) (records frame deliveries : List ℕ) (at : ℕ) (inside : at ≤ length deliveries) where
-  pub not-reached : isMessage (read_of frame).answer ≡ false → Reached p records frame deliveries at at records deliveries
+  pub not-reached : is_message (read_of frame).answer ≡ false → Reached p records frame deliveries at at records deliveries
   not-reached e =
       let n : length (take at deliveries) ≡ at = length-take-le at deliveries inside in
       record {
@@ -54,27 +54,27 @@ module _ (p : ℕ) (records frame deliveries : List ℕ) (at : ℕ) (inside : at
   room : length part ≡ length deliveries - length (take at deliveries)
   room = rw (part-is, length-drop, length-take-le at deliveries inside)
 
-  module _ (e : isMessage (read_of frame).answer ≡ true)
+  module _ (e : is_message (read_of frame).answer ≡ true)
       (o : Outcome) (records' part' : List ℕ)
-      (said : o ≡ outcomeOf (arrivedAt p records frame mostFrames (length part)).answer)
-      (left_there : records' ≡ recordsAfter p (arrivedAt p records frame mostFrames (length part)) records)
-      (handed-there : part' ≡ followedBy (arrivedAt p records frame mostFrames (length part)).deliveries part) where
+      (said : o ≡ outcome_of (arrived_at p records frame most_frames (length part)).answer)
+      (left_there : records' ≡ records_after p (arrived_at p records frame most_frames (length part)) records)
+      (handed-there : part' ≡ followed_by (arrived_at p records frame most_frames (length part)).deliveries part) where
     reply : Reply
-    reply = arrivedAt p records frame mostFrames (length part)
+    reply = arrived_at p records frame most_frames (length part)
 
     -- what is handed out has room
     pub handed-fits : length part' ≡ length part → o.deliveries + at ≤ length deliveries
     handed-fits same =
-        let c = counted (recordAt p records) frame mostFrames (length part) in
+        let c = counted (record_at p records) frame most_frames (length part) in
         let long = simp length-append at (ap length handed-there) in
         let n : length part ≡ length deliveries - at = rw (part-is, length-drop) in
         omega (arith, ap (λ (x : Outcome). x.deliveries) said)
 
     pub reached : Reached p records frame deliveries at (at + o.deliveries) records' (take at deliveries ++ (part' ++ drop (length deliveries - at) (drop at deliveries)))
     reached =
-        let c = counted (recordAt p records) frame mostFrames (length part) in
+        let c = counted (record_at p records) frame most_frames (length part) in
         let n : length (take at deliveries) ≡ at = length-take-le at deliveries inside in
-        let x = (arrivedAt p records frame mostFrames (length part)).deliveries in
+        let x = (arrived_at p records frame most_frames (length part)).deliveries in
         let none : drop (length deliveries - at) (drop at deliveries) ≡ [] = drop_of_length-le (drop at deliveries) {i = length deliveries - at} (simp length-drop (omega arith)) in
         let there : part' ≡ x ++ drop (length x) (drop at deliveries) = handed-there ∙ ap (λ (l : List ℕ). x ++ drop (length x) l) part-is in
         record {
@@ -85,9 +85,9 @@ module _ (p : ℕ) (records frame deliveries : List ℕ) (at : ℕ) (inside : at
 
 -- what was handed out stays
 grows : (room : ℕ) (h : HeardThere) (frame : List ℕ) → length h.handed ≤ length (hears room h frame).handed
-grows room h frame = go (isMessage (read_of frame).answer)
+grows room h frame = go (is_message (read_of frame).answer)
   where
-    go : (b : Bool) → length h.handed ≤ length (cond b (hearsMessage room h frame) h).handed
+    go : (b : Bool) → length h.handed ≤ length (cond b (hears_message room h frame) h).handed
     go true = simp length-append (omega arith)
     go false = omega arith
 
@@ -98,13 +98,13 @@ pub record Hearing (p : ℕ) (records₀ written deliveries₀ records deliverie
   pub inside : at ≤ length deliveries
   pub size : length deliveries ≡ length deliveries₀
   pub width : length records ≡ length records₀
-  pub left : records ≡ withRecord p (recordAt p records) records₀
-  pub joined : deliveries ≡ followedBy (take at deliveries) deliveries₀
-  pub rest : hearsAll (length deliveries₀) (heardSoFar p records deliveries at) (framesIn (drop from written)) ≡ heardAt p records₀ written (length deliveries₀)
+  pub left : records ≡ with_record p (record_at p records) records₀
+  pub joined : deliveries ≡ followed_by (take at deliveries) deliveries₀
+  pub rest : hears_all (length deliveries₀) (heard_so_far p records deliveries at) (frames_in (drop from written)) ≡ heard_at p records₀ written (length deliveries₀)
 
 module _ (p : ℕ) (records₀ written deliveries₀ : List ℕ) where
   pub hearing-starts : Hearing p records₀ written deliveries₀ records₀ deliveries₀ 0 0
-  unfolding heardAt
+  unfolding heard_at
   hearing-starts =
       record {
         begins = omega arith;
@@ -119,29 +119,29 @@ module _ (p : ℕ) (records₀ written deliveries₀ : List ℕ) where
   module _ (records deliveries : List ℕ) (from at : ℕ) (h : Hearing p records₀ written deliveries₀ records deliveries from at) where
     pub hearing-goes : (k at' : ℕ) (records' deliveries' : List ℕ)
         → from < length written
-        → k ≡ length (take (ownSize (take (length written - from) (drop from written))) (take (length written - from) (drop from written)))
+        → k ≡ length (take (own_size (take (length written - from) (drop from written))) (take (length written - from) (drop from written)))
         → Reached p records (take (from + k - from) (drop from written)) deliveries at at' records' deliveries'
         → length records' ≡ length records
         → length deliveries' ≡ length deliveries
         → Hearing p records₀ written deliveries₀ records' deliveries' (from + k) at'
-    unfolding hearsAll
+    unfolding hears_all
     hearing-goes k at' records' deliveries' more e r same same' =
         let all : take (length written - from) (drop from written) ≡ drop from written = take_all (length written - from) (drop from written) (simp length-drop (omega arith)) in
-        let size : k ≡ length (take (ownSize (drop from written)) (drop from written)) = rw all at e in
+        let size : k ≡ length (take (own_size (drop from written)) (drop from written)) = rw all at e in
         let long : length (drop from written) ≡ length written - from = length-drop from written in
-        let few : k ≤ length written - from = omega (arith, size ∙ length-take (ownSize (drop from written)) (drop from written), long) in
+        let few : k ≤ length written - from = omega (arith, size ∙ length-take (own_size (drop from written)) (drop from written), long) in
         let one : from + k - from ≡ k = omega arith in
         let r' : Reached p records (take k (drop from written)) deliveries at at' records' deliveries' = rw one at r in
-        let h₀ = heardSoFar p records deliveries at in
+        let h₀ = heard_so_far p records deliveries at in
         let h₁ = hears (length deliveries) h₀ (take k (drop from written)) in
-        let kept : length (withRecord p h₁.bytes records) ≡ length records = sym (ap length r'.left) ∙ same in
-        let kept₀ : length (withRecord p (recordAt p records) records₀) ≡ length records₀ = sym (ap length h.left) ∙ h.width in
-        let bytes : recordAt p records' ≡ h₁.bytes = rw r'.left (at_with p records h₁.bytes kept) in
+        let kept : length (with_record p h₁.bytes records) ≡ length records = sym (ap length r'.left) ∙ same in
+        let kept₀ : length (with_record p (record_at p records) records₀) ≡ length records₀ = sym (ap length h.left) ∙ h.width in
+        let bytes : record_at p records' ≡ h₁.bytes = rw r'.left (at_with p records h₁.bytes kept) in
         let handed : take at' deliveries' ≡ h₁.handed = rw (r'.joined, r'.count) (take_at h₁.handed _ (length h₁.handed) refl) in
         let fits = simp length-append at (ap length r'.joined) in
         let here : 0 < length (drop from written) = omega (arith, long) in
-        let cuts : framesIn (drop from written) ≡ take k (drop from written) ∷ framesIn (drop (from + k) written) = rw (← drop-drop k from written) (cut_at (drop from written) k here size) in
-        let state : heardSoFar p records' deliveries' at' ≡ h₁ =
+        let cuts : frames_in (drop from written) ≡ take k (drop from written) ∷ frames_in (drop (from + k) written) = rw (← drop-drop k from written) (cut_at (drop from written) k here size) in
+        let state : heard_so_far p records' deliveries' at' ≡ h₁ =
         ap (λ (b : List ℕ). record { bytes = b; handed = take at' deliveries' }) bytes ∙ ap (λ (x : List ℕ). record { bytes = h₁.bytes; handed = x }) handed in
         record {
           begins = omega arith;
@@ -149,23 +149,23 @@ module _ (p : ℕ) (records₀ written deliveries₀ : List ℕ) where
           size = same' ∙ h.size;
           width = same ∙ h.width;
           left = r'.left
-              ∙ ap (λ (l : List ℕ). withRecord p h₁.bytes l) h.left
-              ∙ with-with p records₀ (recordAt p records) kept₀ h₁.bytes
-              ∙ sym (ap (λ (s : List ℕ). withRecord p s records₀) bytes);
+              ∙ ap (λ (l : List ℕ). with_record p h₁.bytes l) h.left
+              ∙ with-with p records₀ (record_at p records) kept₀ h₁.bytes
+              ∙ sym (ap (λ (s : List ℕ). with_record p s records₀) bytes);
           joined = r'.joined
-              ∙ ap (λ (d : List ℕ). followedBy h₁.handed d) h.joined
+              ∙ ap (λ (d : List ℕ). followed_by h₁.handed d) h.joined
               ∙ joined-again (take at deliveries) h₁.handed deliveries₀ (grows (length deliveries) h₀ (take k (drop from written)))
-              ∙ sym (ap (λ (b : List ℕ). followedBy b deliveries₀) handed);
-          rest = ap (λ (x : HeardThere). hearsAll (length deliveries₀) x (framesIn (drop (from + k) written))) state
-              ∙ ap (λ (n : ℕ). hearsAll (length deliveries₀) (hears n h₀ (take k (drop from written))) (framesIn (drop (from + k) written))) h.size
+              ∙ sym (ap (λ (b : List ℕ). followed_by b deliveries₀) handed);
+          rest = ap (λ (x : HeardThere). hears_all (length deliveries₀) x (frames_in (drop (from + k) written))) state
+              ∙ ap (λ (n : ℕ). hears_all (length deliveries₀) (hears n h₀ (take k (drop from written))) (frames_in (drop (from + k) written))) h.size
               ∙ rw cuts at h.rest;
         }
 
     pub hearing-ends : length written ≤ from
-        → (at ≡ length (heardAt p records₀ written (length deliveries₀)).handed)
-        × (records ≡ withRecord p (heardAt p records₀ written (length deliveries₀)).bytes records₀)
-        × (deliveries ≡ followedBy (heardAt p records₀ written (length deliveries₀)).handed deliveries₀)
-    unfolding hearsAll
+        → (at ≡ length (heard_at p records₀ written (length deliveries₀)).handed)
+        × (records ≡ with_record p (heard_at p records₀ written (length deliveries₀)).bytes records₀)
+        × (deliveries ≡ followed_by (heard_at p records₀ written (length deliveries₀)).handed deliveries₀)
+    unfolding hears_all
     hearing-ends done =
-        let over : heardSoFar p records deliveries at ≡ heardAt p records₀ written (length deliveries₀) = rw (drop_of_length-le written {i = from} done, cut-none) at h.rest in
+        let over : heard_so_far p records deliveries at ≡ heard_at p records₀ written (length deliveries₀) = rw (drop_of_length-le written {i = from} done, cut-none) at h.rest in
         rw (← over) (sym (length-take-le at deliveries h.inside), h.left, h.joined)

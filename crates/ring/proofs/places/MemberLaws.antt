@@ -14,7 +14,7 @@ use Rattle.words.proofs.RunLaws.{length-words}
 use Rattle.station.specs.Over.{ids_in}
 use Rattle.frames.specs.Read.{read_of}
 use Rattle.frames.specs.declared.reader.Reading.{Reading}
-use Rattle.ring.specs.Stations.{placeFrom, addresseePlace}
+use Rattle.ring.specs.Stations.{place_from, addressee_place}
 
 pub ids-odd : (s : List ℕ) → (length s % 2 ≡ 0 → ⊥) → 0 ≡ length (ids_in s)
 unfolding ids_in
@@ -58,18 +58,18 @@ id-there s p h =
 
 -- ---- a loop that looks for an id: from here on it is at the place where it is in the whole
 
-pub looking-stops : (ids : List ℕ) (id i : ℕ) → placeFrom i (drop i ids) id ≡ placeFrom 0 ids id → i < length ids → get_or ids i 0 ≡ id → i ≡ placeFrom 0 ids id
-unfolding placeFrom
+pub looking-stops : (ids : List ℕ) (id i : ℕ) → place_from i (drop i ids) id ≡ place_from 0 ids id → i < length ids → get_or ids i 0 ≡ id → i ≡ place_from 0 ids id
+unfolding place_from
 looking-stops ids id i inv h e = rw (drop-cons ids i 0 h, eq-eqb (get_or ids i 0) id e) at inv
 
-pub looking-goes : (ids : List ℕ) (id i : ℕ) → placeFrom i (drop i ids) id ≡ placeFrom 0 ids id → i < length ids → (get_or ids i 0 ≡ id → ⊥) → placeFrom (i + 1) (drop (i + 1) ids) id ≡ placeFrom 0 ids id
-unfolding placeFrom
+pub looking-goes : (ids : List ℕ) (id i : ℕ) → place_from i (drop i ids) id ≡ place_from 0 ids id → i < length ids → (get_or ids i 0 ≡ id → ⊥) → place_from (i + 1) (drop (i + 1) ids) id ≡ place_from 0 ids id
+unfolding place_from
 looking-goes ids id i inv h e = rw (add-one i) (rw (drop-cons ids i 0 h, ne_eqb (get_or ids i 0) id e) at inv)
 
-pub looking-ends : (ids : List ℕ) (id i : ℕ) → placeFrom i (drop i ids) id ≡ placeFrom 0 ids id → length ids ≤ i → i ≡ placeFrom 0 ids id
-unfolding placeFrom
+pub looking-ends : (ids : List ℕ) (id i : ℕ) → place_from i (drop i ids) id ≡ place_from 0 ids id → length ids ≤ i → i ≡ place_from 0 ids id
+unfolding place_from
 looking-ends ids id i inv h = rw (drop_of_length-le ids h) at inv
 
-pub addressee-at : (list token : List ℕ) (reading : Reading) (r : ℕ) → reading ≡ read_of token → r ≡ placeFrom 0 (ids_in list) reading.token.addressee → r ≡ addresseePlace list token
-unfolding addresseePlace
+pub addressee-at : (list token : List ℕ) (reading : Reading) (r : ℕ) → reading ≡ read_of token → r ≡ place_from 0 (ids_in list) reading.token.addressee → r ≡ addressee_place list token
+unfolding addressee_place
 addressee-at list token reading r is e = rw is at e

@@ -7,10 +7,10 @@ use native.Mathlib.Decide.{dec_lt}
 use native.Mathlib.Omega.{arith}
 use lib.ListN.{length, take, drop, length-append, length-take, length-drop, take-append-drop, drop_of_length-le}
 use lib.Seq.{take_all, take-nil, take-length, drop-length, length-take-le, take_at, drop_at, drop-drop}
-use Rattle.record.specs.Layout.{recordSize}
+use Rattle.record.specs.Layout.{record_size}
 use Rattle.station.specs.Reply.{Reply}
-use Rattle.station.specs.Reply.{stationAfter}
-use Rattle.ring.specs.Stations.{recordAt, withRecord, recordsAfter}
+use Rattle.station.specs.Reply.{station_after}
+use Rattle.ring.specs.Stations.{record_at, with_record, records_after}
 
 -- ---- a place past the end is the end
 
@@ -47,22 +47,22 @@ module _ (at size : ℕ) (l : List ℕ) (from to : ℕ) (f : from ≡ min at (le
 
 -- ---- a call at a place, from the call over bytes on the part
 
-module _ (p : ℕ) (records : List ℕ) (from to : ℕ) (f : from ≡ min (recordSize * p) (length records)) (t : to ≡ min (recordSize * p + recordSize) (length records)) where
-  pub part_at : take (to - from) (drop from records) ≡ recordAt p records
-  part_at = part-is (recordSize * p) recordSize records from to f t
+module _ (p : ℕ) (records : List ℕ) (from to : ℕ) (f : from ≡ min (record_size * p) (length records)) (t : to ≡ min (record_size * p + record_size) (length records)) where
+  pub part_at : take (to - from) (drop from records) ≡ record_at p records
+  part_at = part-is (record_size * p) record_size records from to f t
 
   -- what is said of the part is said of the record at the place
-  pub said_at : (P : List ℕ → Type 0) → P (take (to - from) (drop from records)) → P (recordAt p records)
+  pub said_at : (P : List ℕ → Type 0) → P (take (to - from) (drop from records)) → P (record_at p records)
   said_at P h = rw part_at at h
 
-  put-at : (s : List ℕ) → take from records ++ (s ++ drop (to - from) (drop from records)) ≡ withRecord p s records
-  put-at s = rw (before-is (recordSize * p) recordSize records from to f t, after_is (recordSize * p) recordSize records from to f t)
+  put-at : (s : List ℕ) → take from records ++ (s ++ drop (to - from) (drop from records)) ≡ with_record p s records
+  put-at s = rw (before-is (record_size * p) record_size records from to f t, after_is (record_size * p) record_size records from to f t)
 
   -- `reply` is what the call answers to bytes
   pub left_at : (reply : List ℕ → Reply) (s' : List ℕ)
-      → s' ≡ stationAfter (reply (take (to - from) (drop from records))) (take (to - from) (drop from records))
-      → take from records ++ (s' ++ drop (to - from) (drop from records)) ≡ recordsAfter p (reply (recordAt p records)) records
-  left_at reply s' e = put-at s' ∙ ap (λ (s : List ℕ). withRecord p s records) (rw part_at at e)
+      → s' ≡ station_after (reply (take (to - from) (drop from records))) (take (to - from) (drop from records))
+      → take from records ++ (s' ++ drop (to - from) (drop from records)) ≡ records_after p (reply (record_at p records)) records
+  left_at reply s' e = put-at s' ∙ ap (λ (s : List ℕ). with_record p s records) (rw part_at at e)
 
 -- ---- other bytes at a place, any place and size
 
@@ -140,14 +140,14 @@ put_same at size l = rw (← drop-drop size at l, take-append-drop size (drop at
 
 module _ (p : ℕ) (records : List ℕ) where
   -- put back as it is, it changes nothing
-  pub with-same : records ≡ withRecord p (recordAt p records) records
-  with-same = put_same (recordSize * p) recordSize records
+  pub with-same : records ≡ with_record p (record_at p records) records
+  with-same = put_same (record_size * p) record_size records
 
-  module _ (s : List ℕ) (e : length (withRecord p s records) ≡ length records) where
+  module _ (s : List ℕ) (e : length (with_record p s records) ≡ length records) where
     -- what is put there stands there
-    pub at_with : recordAt p (withRecord p s records) ≡ s
-    at_with = stands (recordSize * p) recordSize records s e
+    pub at_with : record_at p (with_record p s records) ≡ s
+    at_with = stands (record_size * p) record_size records s e
 
     -- what is put there last stays
-    pub with-with : (t : List ℕ) → withRecord p t (withRecord p s records) ≡ withRecord p t records
-    with-with t = rw (before (recordSize * p) recordSize records s e, after (recordSize * p) recordSize records s e)
+    pub with-with : (t : List ℕ) → with_record p t (with_record p s records) ≡ with_record p t records
+    with-with t = rw (before (record_size * p) record_size records s e, after (record_size * p) record_size records s e)

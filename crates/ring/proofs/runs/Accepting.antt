@@ -6,36 +6,36 @@ use mathlib.Core.List.{List, []}
 use mathlib.Core.Option.{Option, some}
 use borrow.Author.Tests.{le-leb, eq-eqb, lt-ltb}
 use lib.ListN.{length}
-use Rattle.frames.specs.Message.{contentOf}
-use Rattle.frames.specs.Number.{mostNumber}
-use Rattle.frames.specs.Token.{tokenFollows}
-use Rattle.frames.specs.Read.{read_of, aToken}
+use Rattle.frames.specs.Message.{content_of}
+use Rattle.frames.specs.Number.{most_number}
+use Rattle.frames.specs.Token.{token_follows}
+use Rattle.frames.specs.Read.{read_of, a_token}
 use Rattle.frames.specs.declared.token.Token.{Token}
 use Rattle.frames.specs.declared.reader.Reading.{Reading}
 use Rattle.frames.proofs.Facts.{part}
-use Rattle.record.specs.Ring.{current, ids, thisRing, tokenMembers, isToken, tokenPasses}
+use Rattle.record.specs.Ring.{current, ids, this_ring, token_members, is_token, token_passes}
 use Rattle.record.specs.declared.log.Log.{Log}
 use Rattle.record.specs.declared.Record.{Record}
 use Rattle.record.proofs.HeldFacts.{held-within-most}
 use Rattle.station.specs.Reply.{Reply}
-use Rattle.visit.specs.Output.{mostFrames, mostDeliveries}
+use Rattle.visit.specs.Output.{most_frames, most_deliveries}
 use Rattle.station.specs.Arrive.{accepted}
-use Rattle.visit.specs.Acceptable.{coversHeld}
-use Rattle.station.specs.Arrive.{tokenArrived, arrived}
-use Rattle.visit.specs.Within.{framesIn}
+use Rattle.visit.specs.Acceptable.{covers_held}
+use Rattle.station.specs.Arrive.{token_arrived, arrived}
+use Rattle.visit.specs.Within.{frames_in}
 use Rattle.visit.specs.Acceptable.{Acceptable, visit}
 use Rattle.station.specs.EveryArrival.{ArrivedCase, refuses, hears, accepts}
 use Rattle.station.proofs.ArrivedCases.{ReadCase, unread, message, token, read-case, arrived-case}
 use Rattle.visit.proofs.TokenLaws.{token-passes}
 use Rattle.visit.proofs.VisitReads.{visit-reads}
 use Rattle.ordering.specs.inner.Frame as seen
-use Rattle.ring.specs.Calls.{Call, post, arrival, resending, replyTo}
+use Rattle.ring.specs.Calls.{Call, post, arrival, resending, reply_to}
 use Rattle.ring.specs.History as called
-use Rattle.ring.specs.History.{written_by, acceptsToken}
+use Rattle.ring.specs.History.{written_by, accepts_token}
 use Rattle.ring.specs.Newest.{last_of}
 use Rattle.ring.proofs.seen.View.{store_of}
 use Rattle.ring.proofs.seen.SeenLaws.{no_frames, none-accepted}
-use Rattle.ring.proofs.seen.StoreLaws.{messageHeld, store-held}
+use Rattle.ring.proofs.seen.StoreLaws.{message_held, store-held}
 use Rattle.ring.proofs.seen.HearLaw.{heard-unwritten}
 use Rattle.ring.proofs.seen.VisitWritten.{last_written}
 use Rattle.ring.proofs.seen.VisitLaw.{accepts as accepts-visit}
@@ -43,20 +43,20 @@ use Rattle.ring.proofs.seen.VisitLaw.{accepts as accepts-visit}
 -- ---- a frame that passes 10 to 14 reads as a token, whose values follow the layout
 
 pub record Passed (ring : ℕ) (members frame : List ℕ) : Type 0 where
-  pub read : read_of frame ≡ aToken (read_of frame).token
-  pub follows : tokenFollows (read_of frame).token ≡ true
-  pub this-ring : thisRing ring members (read_of frame).token.header ≡ true
-  pub members-are : tokenMembers members (read_of frame).token ≡ true
+  pub read : read_of frame ≡ a_token (read_of frame).token
+  pub follows : token_follows (read_of frame).token ≡ true
+  pub this-ring : this_ring ring members (read_of frame).token.header ≡ true
+  pub members-are : token_members members (read_of frame).token ≡ true
 
-pub passed : (ring : ℕ) (members frame : List ℕ) → tokenPasses ring members frame ≡ true → Passed ring members frame
-unfolding tokenPasses
+pub passed : (ring : ℕ) (members frame : List ℕ) → token_passes ring members frame ≡ true → Passed ring members frame
+unfolding token_passes
 passed ring members frame e = go (read-case frame)
   where
-    a-token : isToken (read_of frame).answer ≡ true
-    a-token = part e (λ (f : isToken (read_of frame).answer ≡ false). rw f)
+    a-token : is_token (read_of frame).answer ≡ true
+    a-token = part e (λ (f : is_token (read_of frame).answer ≡ false). rw f)
 
-    no-token : (x : Reading) → read_of frame ≡ x → isToken x.answer ≡ false → ⊥
-    no-token x f g = false≢true (sym g ∙ ap (λ (y : Reading). isToken y.answer) (sym f) ∙ a-token)
+    no-token : (x : Reading) → read_of frame ≡ x → is_token x.answer ≡ false → ⊥
+    no-token x f g = false≢true (sym g ∙ ap (λ (y : Reading). is_token y.answer) (sym f) ∙ a-token)
 
     go : ReadCase frame (read_of frame) → Passed ring members frame
     go (unread why f) = absurd (no-token _ f refl)
@@ -64,65 +64,65 @@ passed ring members frame e = go (read-case frame)
     go (token t f follows) =
         let same : t ≡ (read_of frame).token = ap (λ (x : Reading). x.token) (sym f) in
         record {
-          read = f ∙ ap aToken same;
-          follows = subst (λ (k : Token). tokenFollows k ≡ true) same follows;
-          this-ring = part e (λ (g : thisRing ring members (read_of frame).token.header ≡ false). simp (g, and-false));
-          members-are = part e (λ (g : tokenMembers members (read_of frame).token ≡ false). simp (g, and-false));
+          read = f ∙ ap a_token same;
+          follows = subst (λ (k : Token). token_follows k ≡ true) same follows;
+          this-ring = part e (λ (g : this_ring ring members (read_of frame).token.header ≡ false). simp (g, and-false));
+          members-are = part e (λ (g : token_members members (read_of frame).token ≡ false). simp (g, and-false));
         }
 
 -- ---- 18: its highest is at least the level and every number held
 
-pub covers : (l : Log) (highest : ℕ) → l.level.0 ≤ highest → ((n : ℕ) (x : seen.Message) → store_of l n ≡ some x → n ≤ highest) → coversHeld l highest ≡ true
-unfolding coversHeld
-covers l highest level held = rw (le-leb l.level.0 highest level) (held-within-most l highest (λ n e. held n (messageHeld l n) (store-held l n e)))
+pub covers : (l : Log) (highest : ℕ) → l.level.0 ≤ highest → ((n : ℕ) (x : seen.Message) → store_of l n ≡ some x → n ≤ highest) → covers_held l highest ≡ true
+unfolding covers_held
+covers l highest level held = rw (le-leb l.level.0 highest level) (held-within-most l highest (λ n e. held n (message_held l n) (store-held l n e)))
 
 -- ---- it is accepted
 
-module _ (r : Record) (frame : List ℕ) (t : Token) (read : read_of frame ≡ aToken t) (ok : Acceptable (visit r t)) where
-  arrived-accepts : (frames deliveries : ℕ) → mostFrames ≤ frames → mostDeliveries ≤ deliveries → arrived r frame frames deliveries ≡ accepted (visit r t)
-  unfolding arrived tokenArrived
+module _ (r : Record) (frame : List ℕ) (t : Token) (read : read_of frame ≡ a_token t) (ok : Acceptable (visit r t)) where
+  arrived-accepts : (frames deliveries : ℕ) → most_frames ≤ frames → most_deliveries ≤ deliveries → arrived r frame frames deliveries ≡ accepted (visit r t)
+  unfolding arrived token_arrived
   arrived-accepts frames deliveries enough room =
       rw (
-        le-leb mostFrames frames enough,
-        le-leb mostDeliveries deliveries room,
-        ok.whole-record,
+        le-leb most_frames frames enough,
+        le-leb most_deliveries deliveries room,
+        ok.whole_record,
         read,
         ok.this-ring,
         ok.members,
         eq-eqb t.addressee r.own ok.here,
         lt-ltb r.turn.number.0 t.number.0 ok.newer,
-        lt-ltb t.number.0 mostNumber ok.not_last,
+        lt-ltb t.number.0 most_number ok.not_last,
         ok.covers,
       )
 
-  pub event-accepted : (place : ℕ) (frames deliveries : List ℕ) → mostFrames ≤ length frames → mostDeliveries ≤ length deliveries
-      → called.isAccepted (record { call = arrival place frame frames deliveries; reply = replyTo r (arrival place frame frames deliveries) }) ≡ true
-  unfolding called.isAccepted accepted
+  pub event-accepted : (place : ℕ) (frames deliveries : List ℕ) → most_frames ≤ length frames → most_deliveries ≤ length deliveries
+      → called.is_accepted (record { call = arrival place frame frames deliveries; reply = reply_to r (arrival place frame frames deliveries) }) ≡ true
+  unfolding called.is_accepted accepted
   event-accepted place frames deliveries enough room =
-      ap (λ (x : Reply). acceptsToken (some frame) (framesIn x.frames)) (arrived-accepts (length frames) (length deliveries) enough room)
-      ∙ ap (acceptsToken (some frame)) (visit-reads (visit r t) ok).within
+      ap (λ (x : Reply). accepts_token (some frame) (frames_in x.frames)) (arrived-accepts (length frames) (length deliveries) enough room)
+      ∙ ap (accepts_token (some frame)) (visit-reads (visit r t) ok).within
       ∙ accepts-visit (visit r t) ok frame read
 
 -- ---- a call that accepts one writes last a token that passes 10 to 14
 
 abbrev LastPasses : Record → List (List ℕ) → Type 0
-LastPasses r frames = tokenPasses (current r).ring.0 (ids (current r)) (last_of [] frames) ≡ true
+LastPasses r frames = token_passes (current r).ring.0 (ids (current r)) (last_of [] frames) ≡ true
 
 -- nothing written, nothing accepted
-unwritten-accepts : (handed : Option (List ℕ)) (reply : Reply) → reply.frames ≡ [] → acceptsToken handed (framesIn reply.frames) ≡ false
+unwritten-accepts : (handed : Option (List ℕ)) (reply : Reply) → reply.frames ≡ [] → accepts_token handed (frames_in reply.frames) ≡ false
 unwritten-accepts handed reply e = rw (e, no_frames) (none-accepted handed)
 
-arrival-passes : (r : Record) (frame : List ℕ) (reply : Reply) → ArrivedCase r frame reply → acceptsToken (some frame) (framesIn reply.frames) ≡ true → LastPasses r (framesIn reply.frames)
+arrival-passes : (r : Record) (frame : List ℕ) (reply : Reply) → ArrivedCase r frame reply → accepts_token (some frame) (frames_in reply.frames) ≡ true → LastPasses r (frames_in reply.frames)
 unfolding accepted
 arrival-passes r frame reply (refuses why e) h = absurd (false≢true (sym (unwritten-accepts (some frame) reply (ap (λ (x : Reply). x.frames) e)) ∙ h))
 arrival-passes r frame reply (hears m read ok e) h =
-    absurd (false≢true (sym (unwritten-accepts (some frame) reply (ap (λ (x : Reply). x.frames) e ∙ heard-unwritten r m (contentOf frame))) ∙ h))
+    absurd (false≢true (sym (unwritten-accepts (some frame) reply (ap (λ (x : Reply). x.frames) e ∙ heard-unwritten r m (content_of frame))) ∙ h))
 arrival-passes r frame reply (accepts t read ok e) h =
-    subst (LastPasses r) (sym (ap (λ (x : Reply). framesIn x.frames) e ∙ (visit-reads (visit r t) ok).within))
+    subst (LastPasses r) (sym (ap (λ (x : Reply). frames_in x.frames) e ∙ (visit-reads (visit r t) ok).within))
     (rw (last_written (visit r t) ok) (token-passes (visit r t) ok))
 
-pub last-passes : (r : Record) (c : Call) → called.isAccepted (record { call = c; reply = replyTo r c }) ≡ true → LastPasses r (written_by (record { call = c; reply = replyTo r c }))
-unfolding called.isAccepted
+pub last-passes : (r : Record) (c : Call) → called.is_accepted (record { call = c; reply = reply_to r c }) ≡ true → LastPasses r (written_by (record { call = c; reply = reply_to r c }))
+unfolding called.is_accepted
 last-passes r (post place service content) h = absurd (false≢true h)
-last-passes r (arrival place frame frames deliveries) h = arrival-passes r frame (replyTo r (arrival place frame frames deliveries)) (arrived-case r frame (length frames) (length deliveries)) h
+last-passes r (arrival place frame frames deliveries) h = arrival-passes r frame (reply_to r (arrival place frame frames deliveries)) (arrived-case r frame (length frames) (length deliveries)) h
 last-passes r (resending place frames) h = absurd (false≢true h)

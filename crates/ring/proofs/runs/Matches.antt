@@ -8,7 +8,7 @@ use mathlib.Core.Option.{some}
 use lib.Dec.{eqb}
 use Rattle.frames.specs.declared.header.Header.{Header}
 use Rattle.record.specs.Ring.{current}
-use Rattle.visit.specs.Deliver.{ringHeader}
+use Rattle.visit.specs.Deliver.{ring_header}
 use Rattle.ordering.specs.inner.Frame as seen
 use Rattle.ordering.specs.Lists.{Among}
 use Rattle.ordering.specs.inner.Station.{Station}
@@ -16,90 +16,90 @@ use Rattle.ordering.specs.inner.Visit.{Allowed}
 use Rattle.ordering.specs.inner.History.{OnCable as OnCableSeen, Event as EventSeen}
 use Rattle.ordering.specs.inner.Run as ordered
 use Rattle.record.specs.declared.Record.{Record}
-use Rattle.ring.specs.Calls.{Call, post, arrival, resending, stationOf, replyTo}
-use Rattle.ring.specs.History.{Event, Written, place, written_by, writtenAt, writtenIn, OnCable, isAccepted}
+use Rattle.ring.specs.Calls.{Call, post, arrival, resending, station_of, reply_to}
+use Rattle.ring.specs.History.{Event, Written, place, written_by, written_at, written_in, OnCable, is_accepted}
 use Rattle.ring.specs.Run.{Ring, update, step, run, structs}
 use Rattle.ring.specs.Demand.{Handed}
 use Rattle.ring.proofs.runs.Going.{Possible, AcceptedIn}
 use Rattle.ring.specs.Newest.{last_of}
-use Rattle.ring.proofs.seen.View.{frameSeen, stationSeen, eventSeen, tokenIn}
+use Rattle.ring.proofs.seen.View.{frame_seen, station_seen, event_seen, token_in}
 use Rattle.ring.proofs.seen.Law.{Rewrites, HandedRewrites, Law, SeenAs, Sight, as_quiet, as-resending, as-hearing, as-visit}
 use Rattle.ring.proofs.Lists.{among-map, among-back, among-join, each-among, ⊎_map}
-use Rattle.ring.proofs.seen.HistorySeen.{writtenSeen, written-seen}
+use Rattle.ring.proofs.seen.HistorySeen.{written_seen, written-seen}
 
-abbrev pub eventOf : Ring Record → Call → Event
-eventOf s c = record { call = c; reply = replyTo (s.at (stationOf c)) c }
+abbrev pub event_of : Ring Record → Call → Event
+event_of s c = record { call = c; reply = reply_to (s.at (station_of c)) c }
 
-module _ (law : Law) (size : ℕ) (ring : Header) (first : List ℕ) (foundingToken : seen.Token) (starts : frameSeen ring first ≡ seen.token foundingToken) where
+module _ (law : Law) (size : ℕ) (ring : Header) (first : List ℕ) (founding_token : seen.Token) (starts : frame_seen ring first ≡ seen.token founding_token) where
   pub record Matches (s : Ring Record) (o : ordered.Ring) : Type 0 where
-    pub stations : (p : ℕ) → p < size → stationSeen (s.at p) ≡ o.at p
-    pub history : map (eventSeen ring) s.history ≡ o.history
-    pub rings : (p : ℕ) → p < size → ringHeader (current (s.at p)) ≡ ring
+    pub stations : (p : ℕ) → p < size → station_seen (s.at p) ≡ o.at p
+    pub history : map (event_seen ring) s.history ≡ o.history
+    pub rings : (p : ℕ) → p < size → ring_header (current (s.at p)) ≡ ring
     pub cable : (f : List ℕ) → OnCable (first ∷ []) s.history f → Rewrites f
 
   -- a call and what it is seen as
   pub record Stepped (s : Ring Record) (o : ordered.Ring) (c : Call) : Type 0 where
     pub call : ordered.Call
-    pub place : ordered.stationOf call ≡ stationOf c
-    pub possible : ordered.Possible size foundingToken o call
+    pub place : ordered.station_of call ≡ station_of c
+    pub possible : ordered.Possible size founding_token o call
     pub matches : Matches (step structs s c) (ordered.step o call)
-    pub event : eventSeen ring (eventOf s c) ≡ ordered.event (o.at (stationOf c)) call
+    pub event : event_seen ring (event_of s c) ≡ ordered.event (o.at (station_of c)) call
 
   -- ---- on the cable
 
-  on-cable : (history : List Event) (f : List ℕ) → OnCable (first ∷ []) history f → OnCableSeen foundingToken (map (eventSeen ring) history) (frameSeen ring f)
-  on-cable history f (inl (inl e)) = inl (ap (frameSeen ring) e ∙ starts)
+  on-cable : (history : List Event) (f : List ℕ) → OnCable (first ∷ []) history f → OnCableSeen founding_token (map (event_seen ring) history) (frame_seen ring f)
+  on-cable history f (inl (inl e)) = inl (ap (frame_seen ring) e ∙ starts)
   on-cable history f (inl (inr none)) = absurd none
   on-cable history f (inr h) =
-      inr (h.0, subst (λ ws. Among (writtenSeen ring (writtenAt h.0 f)) ws) (sym (written-seen ring history)) (among-map (writtenSeen ring) (writtenAt h.0 f) (writtenIn history) h.1))
+      inr (h.0, subst (λ ws. Among (written_seen ring (written_at h.0 f)) ws) (sym (written-seen ring history)) (among-map (written_seen ring) (written_at h.0 f) (written_in history) h.1))
 
-  new-cable : (s : Ring Record) (o : ordered.Ring) (c : Call) (d : ordered.Call) → Matches s o → SeenAs (s.at (stationOf c)) c d → (f : List ℕ) → OnCable (first ∷ []) (step structs s c).history f → Rewrites f
-  unfolding step writtenIn
+  new-cable : (s : Ring Record) (o : ordered.Ring) (c : Call) (d : ordered.Call) → Matches s o → SeenAs (s.at (station_of c)) c d → (f : List ℕ) → OnCable (first ∷ []) (step structs s c).history f → Rewrites f
+  unfolding step written_in
   new-cable s o c d m k f (inl e) = m.cable f (inl e)
-  new-cable s o c d m k f (inr h) = by_end (among-join (writtenAt h.0 f) (writtenIn s.history) (map (writtenAt (stationOf c)) (written_by (eventOf s c))) h.1)
+  new-cable s o c d m k f (inr h) = by_end (among-join (written_at h.0 f) (written_in s.history) (map (written_at (station_of c)) (written_by (event_of s c))) h.1)
     where
-      by_end : Among (writtenAt h.0 f) (writtenIn s.history) ⊎ Among (writtenAt h.0 f) (map (writtenAt (stationOf c)) (written_by (eventOf s c))) → Rewrites f
+      by_end : Among (written_at h.0 f) (written_in s.history) ⊎ Among (written_at h.0 f) (map (written_at (station_of c)) (written_by (event_of s c))) → Rewrites f
       by_end (inl a) = m.cable f (inr (h.0, a))
       by_end (inr a) =
-          let b = among-back (writtenAt (stationOf c)) (writtenAt h.0 f) (written_by (eventOf s c)) a in
-          subst Rewrites (ap (λ (w : Written). w.frame) b.2) (each-among Rewrites b.0 (written_by (eventOf s c)) k.written b.1)
+          let b = among-back (written_at (station_of c)) (written_at h.0 f) (written_by (event_of s c)) a in
+          subst Rewrites (ap (λ (w : Written). w.frame) b.2) (each-among Rewrites b.0 (written_by (event_of s c)) k.written b.1)
 
   -- ---- a call
 
-  module _ (s : Ring Record) (o : ordered.Ring) (c : Call) (d : ordered.Call) (m : Matches s o) (here : stationOf c < size) (k : SeenAs (s.at (stationOf c)) c d) where
-    new-station : (q : ℕ) → q < size → stationSeen ((step structs s c).at q) ≡ (ordered.step o d).at q
+  module _ (s : Ring Record) (o : ordered.Ring) (c : Call) (d : ordered.Call) (m : Matches s o) (here : station_of c < size) (k : SeenAs (s.at (station_of c)) c d) where
+    new-station : (q : ℕ) → q < size → station_seen ((step structs s c).at q) ≡ (ordered.step o d).at q
     unfolding step ordered.step update ordered.update
     new-station q h =
         subst
-        (λ p. stationSeen (cond (eqb q (stationOf c)) (replyTo (s.at (stationOf c)) c).rec (s.at q)) ≡ cond (eqb q p) (ordered.moved (o.at p) d) (o.at q))
+        (λ p. station_seen (cond (eqb q (station_of c)) (reply_to (s.at (station_of c)) c).rec (s.at q)) ≡ cond (eqb q p) (ordered.moved (o.at p) d) (o.at q))
         (sym k.at)
-        (by_place (eqb q (stationOf c)))
+        (by_place (eqb q (station_of c)))
       where
-        by_place : (b : Bool) → stationSeen (cond b (replyTo (s.at (stationOf c)) c).rec (s.at q)) ≡ cond b (ordered.moved (o.at (stationOf c)) d) (o.at q)
-        by_place true = k.station ∙ ap (λ (t : Station). ordered.moved t d) (m.stations (stationOf c) here)
+        by_place : (b : Bool) → station_seen (cond b (reply_to (s.at (station_of c)) c).rec (s.at q)) ≡ cond b (ordered.moved (o.at (station_of c)) d) (o.at q)
+        by_place true = k.station ∙ ap (λ (t : Station). ordered.moved t d) (m.stations (station_of c) here)
         by_place false = m.stations q h
 
-    new-ring : (q : ℕ) → q < size → ringHeader (current ((step structs s c).at q)) ≡ ring
+    new-ring : (q : ℕ) → q < size → ring_header (current ((step structs s c).at q)) ≡ ring
     unfolding step update
-    new-ring q h = by_place (eqb q (stationOf c))
+    new-ring q h = by_place (eqb q (station_of c))
       where
-        by_place : (b : Bool) → ringHeader (current (cond b (replyTo (s.at (stationOf c)) c).rec (s.at q))) ≡ ring
-        by_place true = k.ring ∙ m.rings (stationOf c) here
+        by_place : (b : Bool) → ring_header (current (cond b (reply_to (s.at (station_of c)) c).rec (s.at q))) ≡ ring
+        by_place true = k.ring ∙ m.rings (station_of c) here
         by_place false = m.rings q h
 
-    new-event : eventSeen ring (eventOf s c) ≡ ordered.event (o.at (stationOf c)) d
+    new-event : event_seen ring (event_of s c) ≡ ordered.event (o.at (station_of c)) d
     new-event =
-        ap (λ (h : Header). eventSeen h (eventOf s c)) (sym (m.rings (stationOf c) here))
+        ap (λ (h : Header). event_seen h (event_of s c)) (sym (m.rings (station_of c) here))
         ∙ k.event
-        ∙ ap (λ (t : Station). ordered.event t d) (m.stations (stationOf c) here)
+        ∙ ap (λ (t : Station). ordered.event t d) (m.stations (station_of c) here)
 
-    new-history : map (eventSeen ring) (step structs s c).history ≡ (ordered.step o d).history
+    new-history : map (event_seen ring) (step structs s c).history ≡ (ordered.step o d).history
     unfolding step ordered.step
     new-history =
-        ap (λ e. e ∷ map (eventSeen ring) s.history) (new-event ∙ ap (λ p. ordered.event (o.at p) d) (sym k.at))
-        ∙ ap (λ l. ordered.event (o.at (ordered.stationOf d)) d ∷ l) m.history
+        ap (λ e. e ∷ map (event_seen ring) s.history) (new-event ∙ ap (λ p. ordered.event (o.at p) d) (sym k.at))
+        ∙ ap (λ l. ordered.event (o.at (ordered.station_of d)) d ∷ l) m.history
 
-    stepped : ordered.Possible size foundingToken o d → Stepped s o c
+    stepped : ordered.Possible size founding_token o d → Stepped s o c
     stepped possible =
         record {
           call = d;
@@ -117,24 +117,24 @@ module _ (law : Law) (size : ℕ) (ring : Header) (first : List ℕ) (foundingTo
   -- the frame of an arrival, as it is seen, is on the cable
   seen-on-cable : (s : Ring Record) (o : ordered.Ring) (c : Call) (frame a b : List ℕ) (f : seen.Frame)
       → Matches s o
-      → stationOf c < size
+      → station_of c < size
       → Handed (first ∷ []) s.history c
-      → c ≡ arrival (stationOf c) frame a b
-      → frameSeen (ringHeader (current (s.at (stationOf c)))) frame ≡ f
-      → OnCableSeen foundingToken o.history f
+      → c ≡ arrival (station_of c) frame a b
+      → frame_seen (ring_header (current (s.at (station_of c)))) frame ≡ f
+      → OnCableSeen founding_token o.history f
   seen-on-cable s o c frame a b f m here h is e =
       let handed : OnCable (first ∷ []) s.history frame = subst (Handed (first ∷ []) s.history) is h in
-      let same : frameSeen ring frame ≡ f = ap (λ (r : Header). frameSeen r frame) (sym (m.rings (stationOf c) here)) ∙ e in
-      subst (λ l. OnCableSeen foundingToken l f) m.history (subst (OnCableSeen foundingToken (map (eventSeen ring) s.history)) same (on-cable s.history frame handed))
+      let same : frame_seen ring frame ≡ f = ap (λ (r : Header). frame_seen r frame) (sym (m.rings (station_of c) here)) ∙ e in
+      subst (λ l. OnCableSeen founding_token l f) m.history (subst (OnCableSeen founding_token (map (event_seen ring) s.history)) same (on-cable s.history frame handed))
 
-  step-seen : (s : Ring Record) (o : ordered.Ring) (c : Call) → Matches s o → stationOf c < size → Handed (first ∷ []) s.history c → Sight (s.at (stationOf c)) c → Stepped s o c
-  step-seen s o c m here h (as_quiet k) = stepped s o c (ordered.quiet (stationOf c)) m here k here
-  step-seen s o c m here h (as-resending k) = stepped s o c (ordered.resending (stationOf c)) m here k here
+  step-seen : (s : Ring Record) (o : ordered.Ring) (c : Call) → Matches s o → station_of c < size → Handed (first ∷ []) s.history c → Sight (s.at (station_of c)) c → Stepped s o c
+  step-seen s o c m here h (as_quiet k) = stepped s o c (ordered.quiet (station_of c)) m here k here
+  step-seen s o c m here h (as-resending k) = stepped s o c (ordered.resending (station_of c)) m here k here
   step-seen s o c m here h (as-hearing frame a b x is e k) =
-      stepped s o c (ordered.hearing (stationOf c) x) m here k (here, seen-on-cable s o c frame a b (seen.message x) m here h is e)
+      stepped s o c (ordered.hearing (station_of c) x) m here k (here, seen-on-cable s o c frame a b (seen.message x) m here h is e)
   step-seen s o c m here h (as-visit frame a b t choice is e addressed newer allowed k) =
-      let same = m.stations (stationOf c) here in
-      stepped s o c (ordered.visiting (stationOf c) t choice) m here k (
+      let same = m.stations (station_of c) here in
+      stepped s o c (ordered.visiting (station_of c) t choice) m here k (
         here,
         seen-on-cable s o c frame a b (seen.token t) m here h is e,
         addressed ∙ ap (λ (x : Station). x.own) same,
@@ -142,27 +142,27 @@ module _ (law : Law) (size : ℕ) (ring : Header) (first : List ℕ) (foundingTo
         subst (λ (x : Station). Allowed x t choice) same allowed,
       )
 
-  pub step-law : (s : Ring Record) (o : ordered.Ring) (c : Call) → Matches s o → stationOf c < size → Handed (first ∷ []) s.history c → Stepped s o c
-  step-law s o c m here h = step-seen s o c m here h (law (s.at (stationOf c)) c (handed-rewrites s o c m h))
+  pub step-law : (s : Ring Record) (o : ordered.Ring) (c : Call) → Matches s o → station_of c < size → Handed (first ∷ []) s.history c → Stepped s o c
+  step-law s o c m here h = step-seen s o c m here h (law (s.at (station_of c)) c (handed-rewrites s o c m h))
 
   -- ---- a list of calls
 
   pub record Followed (s : Ring Record) (o : ordered.Ring) (cs : List Call) : Type 0 where
     pub calls : List ordered.Call
-    pub possible : ordered.AllPossible size foundingToken o calls
+    pub possible : ordered.AllPossible size founding_token o calls
     pub matches : Matches (run structs s cs) (ordered.run o calls)
     pub accepts : (p : ℕ) → AcceptedIn p s cs → ordered.AcceptedIn p o calls
 
   -- an accepted token is forwarded
-  forwarded : (e : Event) → isAccepted e ≡ true → (t : seen.Token) × ((eventSeen ring e).forwarded ≡ some t)
-  unfolding eventSeen
-  forwarded e h = (tokenIn (last_of [] (written_by e)), rw h)
+  forwarded : (e : Event) → is_accepted e ≡ true → (t : seen.Token) × ((event_seen ring e).forwarded ≡ some t)
+  unfolding event_seen
+  forwarded e h = (token_in (last_of [] (written_by e)), rw h)
 
-  accepted-here : (s : Ring Record) (o : ordered.Ring) (c : Call) (k : Stepped s o c) (p : ℕ) → (stationOf c ≡ p) × (isAccepted (eventOf s c) ≡ true)
-      → (ordered.stationOf k.call ≡ p) × ((t : seen.Token) × ((ordered.event (o.at (ordered.stationOf k.call)) k.call).forwarded ≡ some t))
+  accepted-here : (s : Ring Record) (o : ordered.Ring) (c : Call) (k : Stepped s o c) (p : ℕ) → (station_of c ≡ p) × (is_accepted (event_of s c) ≡ true)
+      → (ordered.station_of k.call ≡ p) × ((t : seen.Token) × ((ordered.event (o.at (ordered.station_of k.call)) k.call).forwarded ≡ some t))
   accepted-here s o c k p h =
-      let f = forwarded (eventOf s c) h.1 in
-      let e : eventSeen ring (eventOf s c) ≡ ordered.event (o.at (ordered.stationOf k.call)) k.call = k.event ∙ ap (λ q. ordered.event (o.at q) k.call) (sym k.place) in
+      let f = forwarded (event_of s c) h.1 in
+      let e : event_seen ring (event_of s c) ≡ ordered.event (o.at (ordered.station_of k.call)) k.call = k.event ∙ ap (λ q. ordered.event (o.at q) k.call) (sym k.place) in
       (k.place ∙ h.0, (f.0, ap (λ (x : EventSeen). x.forwarded) (sym e) ∙ f.1))
 
   pub followed : (s : Ring Record) (o : ordered.Ring) (cs : List Call) → Matches s o → Possible size first s cs → Followed s o cs

@@ -10,9 +10,9 @@ use Rattle.record.specs.declared.Record.{Record}
 use Rattle.ordering.specs.inner.Frame as seen
 use Rattle.ordering.proofs.Base.{first-stays}
 use Rattle.ordering.specs.inner.Run as ordered
-use Rattle.ring.specs.Calls.{Call, stationOf, replyTo}
-use Rattle.ring.specs.History.{Written, writtenAt, written_by, writtenIn, isNumbered, reading}
-use Rattle.ring.specs.Run.{Ring, firstFrame, start, step, run, accountOf, structs}
+use Rattle.ring.specs.Calls.{Call, station_of, reply_to}
+use Rattle.ring.specs.History.{Written, written_at, written_by, written_in, is_numbered, reading}
+use Rattle.ring.specs.Run.{Ring, first_frame, start, step, run, account_of, structs}
 use Rattle.ring.specs.Demand.{CanAfter, AcceptedIn}
 use Rattle.ring.proofs.runs.Going.{Possible, AcceptedIn as Accepts}
 
@@ -50,9 +50,9 @@ possible-join size first o (c ∷ xs) ys h k = (h.0, possible-join size first (o
 -- ---- a reading stays the reading
 
 reading-next : (ring : Header) (s : Ring Record) (c : Call) (n : ℕ) (w : Written) → reading ring s.history n ≡ some w → reading ring (step structs s c).history n ≡ some w
-unfolding reading step writtenIn
+unfolding reading step written_in
 reading-next ring s c n w e =
-    first-stays (λ v. isNumbered ring n v.frame) (writtenIn s.history) (map (writtenAt (stationOf c)) (written_by (record { call = c; reply = replyTo (s.at (stationOf c)) c }))) w e
+    first-stays (λ v. is_numbered ring n v.frame) (written_in s.history) (map (written_at (station_of c)) (written_by (record { call = c; reply = reply_to (s.at (station_of c)) c }))) w e
 
 pub reading-stays : (ring : Header) (s : Ring Record) (cs : List Call) (n : ℕ) (w : Written) → reading ring s.history n ≡ some w → reading ring (run structs s cs).history n ≡ some w
 unfolding run
@@ -69,16 +69,16 @@ module _ (members : List ℕ) (ring : ℕ) (founded : ℕ → Record) where
   unfolding run
   after_one before c = run_join (start founded) before (c ∷ [])
 
-  pub possible-after : (before cs : List Call) → CanAfter members ring (accountOf structs founded) before cs → Possible (length members) (firstFrame members ring) (after before) cs
+  pub possible-after : (before cs : List Call) → CanAfter members ring (account_of structs founded) before cs → Possible (length members) (first_frame members ring) (after before) cs
   possible-after before [] h = tt
   possible-after before (c ∷ cs) h =
-      (h.0, h.1, subst (λ s. Possible (length members) (firstFrame members ring) s cs) (after_one before c) (possible-after (before ++ (c ∷ [])) cs h.2))
+      (h.0, h.1, subst (λ s. Possible (length members) (first_frame members ring) s cs) (after_one before c) (possible-after (before ++ (c ∷ [])) cs h.2))
 
-  pub can-after : (before cs : List Call) → Possible (length members) (firstFrame members ring) (after before) cs → CanAfter members ring (accountOf structs founded) before cs
+  pub can-after : (before cs : List Call) → Possible (length members) (first_frame members ring) (after before) cs → CanAfter members ring (account_of structs founded) before cs
   can-after before [] h = tt
   can-after before (c ∷ cs) h =
-      (h.0, h.1, can-after (before ++ (c ∷ [])) cs (subst (λ s. Possible (length members) (firstFrame members ring) s cs) (sym (after_one before c)) h.2))
+      (h.0, h.1, can-after (before ++ (c ∷ [])) cs (subst (λ s. Possible (length members) (first_frame members ring) s cs) (sym (after_one before c)) h.2))
 
-  pub accepts-after : (p : ℕ) (before cs : List Call) → AcceptedIn members ring (accountOf structs founded) p before cs → Accepts p (after before) cs
+  pub accepts-after : (p : ℕ) (before cs : List Call) → AcceptedIn members ring (account_of structs founded) p before cs → Accepts p (after before) cs
   accepts-after p before (c ∷ cs) (inl h) = inl h
   accepts-after p before (c ∷ cs) (inr h) = inr (subst (λ s. Accepts p s cs) (after_one before c) (accepts-after p (before ++ (c ∷ [])) cs h))

@@ -8,24 +8,24 @@ use mathlib.Core.Option.{some}
 use native.Mathlib.Omega.{arith}
 use lib.ListN.{length}
 use Rattle.frames.specs.declared.header.Header.{Header}
-use Rattle.record.specs.Members.{membersCounted, idsFollow, ringInRange}
+use Rattle.record.specs.Members.{members_counted, ids_follow, ring_in_range}
 use Rattle.record.specs.Ring.{current}
-use Rattle.visit.specs.Deliver.{ringHeader, joined}
+use Rattle.visit.specs.Deliver.{ring_header, joined}
 use Rattle.ordering.specs.inner.Frame as seen
 use Rattle.ordering.specs.Lists.{Among, Begins, OneBegins}
 use Rattle.ordering.specs.inner.History as cable
 use Rattle.ordering.specs.inner.Run as ordered
 use Rattle.ordering.specs.inner.Demand as demand
-use Rattle.ring.specs.Calls.{Call, stationOf, replyTo}
-use Rattle.ring.specs.History.{Event, Written, writtenIn, isNumbered, reading, isSafe, Received, deliveryList, handedBy, deliveries, DeliveredAt}
+use Rattle.ring.specs.Calls.{Call, station_of, reply_to}
+use Rattle.ring.specs.History.{Event, Written, written_in, is_numbered, reading, is_safe, Received, delivery_list, handed_by, deliveries, DeliveredAt}
 use Rattle.record.specs.declared.Record.{Record}
-use Rattle.ring.specs.Run.{Ring, records, start, firstFrame, ringOf, run, Account, accountOf, structs}
+use Rattle.ring.specs.Run.{Ring, records, start, first_frame, ring_of, run, Account, account_of, structs}
 use Rattle.ring.specs.Demand.{CanAfter, OneOrder, SafeFirst, Delivered, WholeRun, AcceptedIn, Round}
 use Rattle.ring.proofs.runs.Going.{Possible, AcceptedIn as Accepts}
 use Rattle.ring.proofs.seen.Law.{Rewrites, Law}
-use Rattle.ring.proofs.seen.View.{messageIn, stationSeen, eventSeen}
+use Rattle.ring.proofs.seen.View.{message_in, station_seen, event_seen}
 use Rattle.ring.proofs.Lists.{texts, map-join, among-map, ⊎_map, some_inj, message-inj}
-use Rattle.ring.proofs.seen.HistorySeen.{message-seen, reading-numbered, writtenSeen, firstSeen, reading-seen, received-there, received-here, handed-seen, joined-join, delivery-list}
+use Rattle.ring.proofs.seen.HistorySeen.{message-seen, reading-numbered, written_seen, first_seen, reading-seen, received-there, received-here, handed-seen, joined-join, delivery-list}
 use Rattle.ring.proofs.runs.Matches.{Matches, Stepped, step-law, Followed, followed}
 use Rattle.ring.proofs.runs.Start.{starts, first-rewrites, station-starts, ring-starts}
 use Rattle.ring.proofs.runs.Split.{run_join, possible-after, accepts-after, possible-first, possible-rest, run-join-seen, possible-join, reading-stays}
@@ -37,35 +37,35 @@ begins-joined xs ys b = (
   sym (joined-join (texts xs) (texts b.0)) ∙ ap joined (sym (map-join (λ (x : seen.Message). x.text) xs b.0)) ∙ ap (λ zs. joined (texts zs)) b.1,
 )
 
-pub text_in : (f : List ℕ) → (messageIn f).text ≡ f
-unfolding messageIn
+pub text_in : (f : List ℕ) → (message_in f).text ≡ f
+unfolding message_in
 text_in f = refl
 
 module _ (law : Law) (members : List ℕ) (ring : ℕ)
-    (counted : membersCounted members ≡ true) (follow : idsFollow members ≡ true) (ranged : ringInRange ring ≡ true)
-    (ordering : demand.Demand₃ members (firstFrame members ring))
+    (counted : members_counted members ≡ true) (follow : ids_follow members ≡ true) (ranged : ring_in_range ring ≡ true)
+    (ordering : demand.Demand₃ members (first_frame members ring))
     -- records by place, founding's at the members' places
     (founded : ℕ → Record) (are : (p : ℕ) → p < length members → founded p ≡ records members ring p) where
   abbrev size : ℕ
   size = length members
 
   abbrev first : List ℕ
-  first = firstFrame members ring
+  first = first_frame members ring
 
   abbrev this : Header
-  this = ringOf members ring
+  this = ring_of members ring
 
-  abbrev firstSeenToken : seen.Token
-  firstSeenToken = ordered.foundingToken members first
+  abbrev first_seen_token : seen.Token
+  first_seen_token = ordered.founding_token members first
 
   abbrev Match : Ring Record → ordered.Ring → Type 0
-  Match s o = Matches law size this first firstSeenToken (starts members ring counted follow ranged) s o
+  Match s o = Matches law size this first first_seen_token (starts members ring counted follow ranged) s o
 
   abbrev Follow : Ring Record → ordered.Ring → List Call → Type 0
-  Follow s o cs = Followed law size this first firstSeenToken (starts members ring counted follow ranged) s o cs
+  Follow s o cs = Followed law size this first first_seen_token (starts members ring counted follow ranged) s o cs
 
   abbrev account : Account
-  account = accountOf structs founded
+  account = account_of structs founded
 
   abbrev after : List Call → Ring Record
   after calls = run structs (start founded) calls
@@ -76,38 +76,38 @@ module _ (law : Law) (members : List ℕ) (ring : ℕ)
   -- ---- the start is seen
 
   pub match-start : Match (start founded) (ordered.start members)
-  unfolding writtenIn
+  unfolding written_in
   match-start =
       record {
-        stations = λ p h. ap stationSeen (are p h) ∙ station-starts members ring counted follow ranged p h;
+        stations = λ p h. ap station_seen (are p h) ∙ station-starts members ring counted follow ranged p h;
         history = refl;
-        rings = λ p h. ap (λ (r : Record). ringHeader (current r)) (are p h) ∙ ring-starts members ring counted follow ranged p h;
+        rings = λ p h. ap (λ (r : Record). ring_header (current r)) (are p h) ∙ ring-starts members ring counted follow ranged p h;
         cable = λ f h. on-start f h;
       }
     where
-      on-start : (f : List ℕ) → Among f (first ∷ []) ⊎ ((place : ℕ) × Among (record { frame = f; place = place }) (writtenIn [])) → Rewrites f
+      on-start : (f : List ℕ) → Among f (first ∷ []) ⊎ ((place : ℕ) × Among (record { frame = f; place = place }) (written_in [])) → Rewrites f
       on-start f (inl (inl e)) = subst Rewrites (sym e) (first-rewrites members ring counted follow ranged)
       on-start f (inl (inr none)) = absurd none
       on-start f (inr h) = absurd h.1
 
   pub follow-on : (s : Ring Record) (o : ordered.Ring) (cs : List Call) → Match s o → Possible size first s cs → Follow s o cs
-  follow-on s o cs m h = followed law size this first firstSeenToken (starts members ring counted follow ranged) s o cs m h
+  follow-on s o cs m h = followed law size this first first_seen_token (starts members ring counted follow ranged) s o cs m h
 
   -- the delivery list of a ring that is seen
-  list-seen : (s : Ring Record) (o : ordered.Ring) (p : ℕ) → Match s o → joined (texts (cable.handedAt p o.history)) ≡ deliveryList p s.history
+  list-seen : (s : Ring Record) (o : ordered.Ring) (p : ℕ) → Match s o → joined (texts (cable.handed_at p o.history)) ≡ delivery_list p s.history
   list-seen s o p m =
-      ap (λ l. joined (texts (cable.handedAt p l))) (sym m.history)
+      ap (λ l. joined (texts (cable.handed_at p l))) (sym m.history)
       ∙ ap joined (handed-seen this p s.history)
       ∙ delivery-list p s.history
 
-  one-order : (calls : List Call) → Can calls → OneOrder members ring account calls
-  one-order calls can p q p< q< =
+  one_order : (calls : List Call) → Can calls → OneOrder members ring account calls
+  one_order calls can p q p< q< =
       let f = follow-on (start founded) (ordered.start members) calls match-start can in
       let end = ordered.run (ordered.start members) f.calls in
-      let lists = ⊎_map (begins-joined (cable.handedAt p end.history) (cable.handedAt q end.history)) (begins-joined (cable.handedAt q end.history) (cable.handedAt p end.history))
-      (ordering.one-order f.calls f.possible p q p< q<) in
-      subst (λ l. OneBegins l (deliveryList q (after calls).history)) (list-seen (after calls) end p f.matches)
-      (subst (λ l. OneBegins (joined (texts (cable.handedAt p end.history))) l) (list-seen (after calls) end q f.matches) lists)
+      let lists = ⊎_map (begins-joined (cable.handed_at p end.history) (cable.handed_at q end.history)) (begins-joined (cable.handed_at q end.history) (cable.handed_at p end.history))
+      (ordering.one_order f.calls f.possible p q p< q<) in
+      subst (λ l. OneBegins l (delivery_list q (after calls).history)) (list-seen (after calls) end p f.matches)
+      (subst (λ l. OneBegins (joined (texts (cable.handed_at p end.history))) l) (list-seen (after calls) end q f.matches) lists)
 
   -- ---- a safe reading had been received everywhere before
 
@@ -118,43 +118,43 @@ module _ (law : Law) (members : List ℕ) (ring : ℕ)
     abbrev now : Ring Record
     now = after before
 
-    abbrev nowSeen : ordered.Ring
-    nowSeen = ordered.run (ordered.start members) ahead.calls
+    abbrev now_seen : ordered.Ring
+    now_seen = ordered.run (ordered.start members) ahead.calls
 
     here : Possible size first now (c ∷ later)
     here = possible-rest size first (start founded) before (c ∷ later) can
 
-    call-seen : Stepped law size this first firstSeenToken (starts members ring counted follow ranged) now nowSeen c
-    call-seen = step-law law size this first firstSeenToken (starts members ring counted follow ranged) now nowSeen c ahead.matches here.0 here.1
+    call-seen : Stepped law size this first first_seen_token (starts members ring counted follow ranged) now now_seen c
+    call-seen = step-law law size this first first_seen_token (starts members ring counted follow ranged) now now_seen c ahead.matches here.0 here.1
 
     possible-seen : demand.Allows members first (ahead.calls ++ (call-seen.call ∷ []))
-    possible-seen = possible-join size firstSeenToken (ordered.start members) ahead.calls (call-seen.call ∷ []) ahead.possible (call-seen.possible, tt)
+    possible-seen = possible-join size first_seen_token (ordered.start members) ahead.calls (call-seen.call ∷ []) ahead.possible (call-seen.possible, tt)
 
-    abbrev eventNow : Event
-    eventNow = record { call = c; reply = replyTo (now.at (stationOf c)) c }
+    abbrev event_now : Event
+    event_now = record { call = c; reply = reply_to (now.at (station_of c)) c }
 
     -- a frame that the call hands out is handed out as ordering sees it
-    handed-there : (f : List ℕ) → Among f (handedBy eventNow) → Among (messageIn f) (ordered.event (nowSeen.at (ordered.stationOf call-seen.call)) call-seen.call).handed
-    unfolding eventSeen
+    handed-there : (f : List ℕ) → Among f (handed_by event_now) → Among (message_in f) (ordered.event (now_seen.at (ordered.station_of call-seen.call)) call-seen.call).handed
+    unfolding event_seen
     handed-there f a =
-        let e : eventSeen this eventNow ≡ ordered.event (nowSeen.at (ordered.stationOf call-seen.call)) call-seen.call =
-        call-seen.event ∙ ap (λ q. ordered.event (nowSeen.at q) call-seen.call) (sym call-seen.place) in
-        subst (λ (x : cable.Event). Among (messageIn f) x.handed) e (among-map messageIn f (handedBy eventNow) a)
+        let e : event_seen this event_now ≡ ordered.event (now_seen.at (ordered.station_of call-seen.call)) call-seen.call =
+        call-seen.event ∙ ap (λ q. ordered.event (now_seen.at q) call-seen.call) (sym call-seen.place) in
+        subst (λ (x : cable.Event). Among (message_in f) x.handed) e (among-map message_in f (handed_by event_now) a)
 
     safe-before : (n : ℕ) (w : Written)
-        → isNumbered this n w.frame ≡ true
-        → isSafe w.frame ≡ true
-        → Among w.frame (handedBy eventNow)
+        → is_numbered this n w.frame ≡ true
+        → is_safe w.frame ≡ true
+        → Among w.frame (handed_by event_now)
         → (p : ℕ) → p < size → Received this now.history p n
-    unfolding isSafe messageIn
+    unfolding is_safe message_in
     safe-before n w numbered safe a p p< =
-        let got = ordering.safe-first ahead.calls call-seen.call possible-seen (messageIn w.frame) (handed-there w.frame a) safe p p< in
-        let number : (messageIn w.frame).number ≡ n = (message-seen this n w.frame numbered).1 in
+        let got = ordering.safe_first ahead.calls call-seen.call possible-seen (message_in w.frame) (handed-there w.frame a) safe p p< in
+        let number : (message_in w.frame).number ≡ n = (message-seen this n w.frame numbered).1 in
         received-here this now.history p n
-        (subst (cable.Received p n) (sym ahead.matches.history) (subst (λ k. cable.Received p k nowSeen.history) number got))
+        (subst (cable.Received p n) (sym ahead.matches.history) (subst (λ k. cable.Received p k now_seen.history) number got))
 
-  safe-first : (calls : List Call) → Can calls → SafeFirst members ring account calls
-  safe-first calls can before later c e n w is safe a p p< =
+  safe_first : (calls : List Call) → Can calls → SafeFirst members ring account calls
+  safe_first calls can before later c e n w is safe a p p< =
       safe-before before later c (subst Can e can) n w (reading-numbered this (after calls).history n w is) safe a p p<
 
   -- ---- three rounds later
@@ -196,20 +196,20 @@ module _ (law : Law) (members : List ℕ) (ring : ℕ)
     f₃ : Follow s₂ o₂ three
     f₃ = follow-on s₂ o₂ three f₂.matches (possible-rest size first s₁ two three can₂)
 
-    abbrev allCalls : List ordered.Call
-    allCalls = f₀.calls ++ (f₁.calls ++ (f₂.calls ++ f₃.calls))
+    abbrev all_calls : List ordered.Call
+    all_calls = f₀.calls ++ (f₁.calls ++ (f₂.calls ++ f₃.calls))
 
-    all-possible : demand.Allows members first allCalls
+    all-possible : demand.Allows members first all_calls
     all-possible =
-        possible-join size firstSeenToken (ordered.start members) f₀.calls (f₁.calls ++ (f₂.calls ++ f₃.calls)) f₀.possible
-        (possible-join size firstSeenToken o₀ f₁.calls (f₂.calls ++ f₃.calls) f₁.possible
-        (possible-join size firstSeenToken o₁ f₂.calls f₃.calls f₂.possible f₃.possible))
+        possible-join size first_seen_token (ordered.start members) f₀.calls (f₁.calls ++ (f₂.calls ++ f₃.calls)) f₀.possible
+        (possible-join size first_seen_token o₀ f₁.calls (f₂.calls ++ f₃.calls) f₁.possible
+        (possible-join size first_seen_token o₁ f₂.calls f₃.calls f₂.possible f₃.possible))
 
     -- the ring at the end, in parts
     end : after (before ++ (one ++ (two ++ three))) ≡ run structs s₂ three
     end = run_join (start founded) before (one ++ (two ++ three)) ∙ run_join s₀ one (two ++ three) ∙ run_join s₁ two three
 
-    end_seen : demand.after members first allCalls ≡ ordered.run o₂ f₃.calls
+    end_seen : demand.after members first all_calls ≡ ordered.run o₂ f₃.calls
     end_seen =
         run-join-seen (ordered.start members) f₀.calls (f₁.calls ++ (f₂.calls ++ f₃.calls))
         ∙ run-join-seen o₀ f₁.calls (f₂.calls ++ f₃.calls)
@@ -240,14 +240,14 @@ module _ (law : Law) (members : List ℕ) (ring : ℕ)
           -- the reading is the one that was received
           let same : g.first ≡ w =
           some_inj (sym (reading-stays this s₀ (one ++ (two ++ three)) n g.first g.is) ∙ ap (λ (s : Ring Record). reading this s.history n) (sym (run_join (start founded) before (one ++ (two ++ three)))) ∙ is) in
-          let first-is : writtenSeen this g.first ≡ d.1 =
-          some_inj (sym (ap (firstSeen this) g.is) ∙ sym (reading-seen this s₀.history n) ∙ ap (λ l. cable.reading l n) f₀.matches.history ∙ d.2) in
+          let first-is : written_seen this g.first ≡ d.1 =
+          some_inj (sym (ap (first_seen this) g.is) ∙ sym (reading-seen this s₀.history n) ∙ ap (λ l. cable.reading l n) f₀.matches.history ∙ d.2) in
           let m-is = (message-seen this n g.first.frame (reading-numbered this s₀.history n g.first g.is)).0 in
-          let x-is : messageIn g.first.frame ≡ d.0 = message-inj (sym m-is ∙ ap (λ (v : cable.Written). v.frame) first-is ∙ d.3) in
-          let there : Among d.0 (cable.handedAt p (ordered.run o₂ f₃.calls).history) = subst (λ (o : ordered.Ring). Among d.0 (cable.handedAt p o.history)) end_seen d.4 in
+          let x-is : message_in g.first.frame ≡ d.0 = message-inj (sym m-is ∙ ap (λ (v : cable.Written). v.frame) first-is ∙ d.3) in
+          let there : Among d.0 (cable.handed_at p (ordered.run o₂ f₃.calls).history) = subst (λ (o : ordered.Ring). Among d.0 (cable.handed_at p o.history)) end_seen d.4 in
           let texts-there : Among d.0.text (deliveries p (run structs s₂ three).history) =
-          subst (Among d.0.text) (ap (λ l. texts (cable.handedAt p l)) (sym f₃.matches.history) ∙ handed-seen this p (run structs s₂ three).history)
-          (among-map (λ (x : seen.Message). x.text) d.0 (cable.handedAt p (ordered.run o₂ f₃.calls).history) there) in
+          subst (Among d.0.text) (ap (λ l. texts (cable.handed_at p l)) (sym f₃.matches.history) ∙ handed-seen this p (run structs s₂ three).history)
+          (among-map (λ (x : seen.Message). x.text) d.0 (cable.handed_at p (ordered.run o₂ f₃.calls).history) there) in
           subst (λ (s : Ring Record). DeliveredAt p s.history w.frame) (sym end)
           (subst (λ f. Among f (deliveries p (run structs s₂ three).history)) (sym (ap (λ (x : seen.Message). x.text) x-is) ∙ text_in g.first.frame ∙ ap (λ (v : Written). v.frame) same) texts-there)
 
@@ -260,4 +260,4 @@ module _ (law : Law) (members : List ℕ) (ring : ℕ)
   unfolding run
   whole-run-from calls h =
       let can = possible-after members ring founded [] calls h in
-      record { one-order = one-order calls can; safe-first = safe-first calls can; delivered = delivered calls can }
+      record { one_order = one_order calls can; safe_first = safe_first calls can; delivered = delivered calls can }

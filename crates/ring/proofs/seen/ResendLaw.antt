@@ -9,23 +9,23 @@ use lib.ListN.{length}
 use lib.Dec.{leb}
 use Rattle.frames.specs.Read.{read_of}
 use Rattle.frames.proofs.Facts.{part}
-use Rattle.record.specs.Turn.{mayResend, remembered}
-use Rattle.record.specs.Ring.{current, ids, tokenPasses, isToken}
-use Rattle.record.specs.Whole.{resendPasses, whole}
+use Rattle.record.specs.Turn.{may_resend, remembered}
+use Rattle.record.specs.Ring.{current, ids, token_passes, is_token}
+use Rattle.record.specs.Whole.{resend_passes, whole}
 use Rattle.record.specs.declared.turn.Turn.{Turn}
 use Rattle.record.specs.declared.Record.{Record}
 use Rattle.record.proofs.WholeFacts.{whole-good}
 use Rattle.station.specs.Reply.{Reply}
-use Rattle.visit.specs.Output.{mostFrames}
+use Rattle.visit.specs.Output.{most_frames}
 use Rattle.station.specs.Resend.{resent}
-use Rattle.visit.specs.Deliver.{ringHeader}
-use Rattle.visit.specs.Within.{framesIn}
+use Rattle.visit.specs.Deliver.{ring_header}
+use Rattle.visit.specs.Within.{frames_in}
 use Rattle.station.specs.declared.refusal.Refusal.TheVariants.{NoRoom, NotWhole, NothingToResend}
 use Rattle.station.specs.declared.answer.Answer.TheVariants.{Resent}
 use Rattle.ordering.specs.inner.Run as ordered
-use Rattle.ring.specs.Calls.{Call, resending, stationOf}
-use Rattle.ring.specs.History.{isAccepted}
-use Rattle.ring.proofs.seen.View.{stationSeen, frameSeen, eventSeen, tokenIn, resendableOf}
+use Rattle.ring.specs.Calls.{Call, resending, station_of}
+use Rattle.ring.specs.History.{is_accepted}
+use Rattle.ring.proofs.seen.View.{station_seen, frame_seen, event_seen, token_in, resendable_of}
 use Rattle.ring.proofs.seen.Law.{Sight, as_quiet, as-resending}
 use Rattle.ring.proofs.seen.SeenLaws.{SeenReply, seen_as, asked, no_frames}
 use Rattle.ring.proofs.seen.QuietLaw.{Quiet, quiet-refused}
@@ -33,18 +33,18 @@ use Rattle.ring.proofs.seen.FrameLaws.{token-alone, frame-token, token-rewrites}
 
 -- ---- the remembered token of a whole record reads as a token
 
-passes-token : (ring : ℕ) (members frame : List ℕ) → tokenPasses ring members frame ≡ true → isToken (read_of frame).answer ≡ true
-unfolding tokenPasses
-passes-token ring members frame e = part e (λ (f : isToken (read_of frame).answer ≡ false). rw f)
+passes-token : (ring : ℕ) (members frame : List ℕ) → token_passes ring members frame ≡ true → is_token (read_of frame).answer ≡ true
+unfolding token_passes
+passes-token ring members frame e = part e (λ (f : is_token (read_of frame).answer ≡ false). rw f)
 
-pub resendable-reads : (r : Record) → whole r ≡ true → mayResend r.turn ≡ true → isToken (read_of (remembered r.turn)).answer ≡ true
-unfolding resendPasses
+pub resendable-reads : (r : Record) → whole r ≡ true → may_resend r.turn ≡ true → is_token (read_of (remembered r.turn)).answer ≡ true
+unfolding resend_passes
 resendable-reads r w resendable =
-    let good : (not (mayResend r.turn) || tokenPasses (current r).ring.0 (ids (current r)) (remembered r.turn)) ≡ true = (whole-good r w).turn.leave in
+    let good : (not (may_resend r.turn) || token_passes (current r).ring.0 (ids (current r)) (remembered r.turn)) ≡ true = (whole-good r w).turn.leave in
     passes-token (current r).ring.0 (ids (current r)) (remembered r.turn) (rw resendable at good)
 
-pub resendable-is : (t : Turn) → mayResend t ≡ true → resendableOf t ≡ some (tokenIn (remembered t))
-unfolding resendableOf
+pub resendable-is : (t : Turn) → may_resend t ≡ true → resendable_of t ≡ some (token_in (remembered t))
+unfolding resendable_of
 resendable-is t e = rw e
 
 -- ---- taken
@@ -52,19 +52,19 @@ resendable-is t e = rw e
 abbrev Taken : Record → Reply
 Taken r = record { answer = Resent r.turn.size; rec = r; frames = remembered r.turn; deliveries = [] }
 
-module _ (r : Record) (place : ℕ) (frames : List ℕ) (w : whole r ≡ true) (resendable : mayResend r.turn ≡ true) where
-  reads : isToken (read_of (remembered r.turn)).answer ≡ true
+module _ (r : Record) (place : ℕ) (frames : List ℕ) (w : whole r ≡ true) (resendable : may_resend r.turn ≡ true) where
+  reads : is_token (read_of (remembered r.turn)).answer ≡ true
   reads = resendable-reads r w resendable
 
-  within : framesIn (remembered r.turn) ≡ remembered r.turn ∷ []
+  within : frames_in (remembered r.turn) ≡ remembered r.turn ∷ []
   within = token-alone (remembered r.turn) reads
 
-  writes : map (frameSeen (ringHeader (current r))) (framesIn (remembered r.turn)) ≡ ordered.resendWrites (stationSeen r).resendable
-  unfolding stationSeen
-  writes = rw (within, resendable-is r.turn resendable, frame-token (ringHeader (current r)) (remembered r.turn) reads)
+  writes : map (frame_seen (ring_header (current r))) (frames_in (remembered r.turn)) ≡ ordered.resend_writes (station_seen r).resendable
+  unfolding station_seen
+  writes = rw (within, resendable-is r.turn resendable, frame-token (ring_header (current r)) (remembered r.turn) reads)
 
-  taken-event : eventSeen (ringHeader (current r)) (record { call = resending place frames; reply = Taken r }) ≡ ordered.event (stationSeen r) (ordered.resending place)
-  unfolding eventSeen isAccepted
+  taken-event : event_seen (ring_header (current r)) (record { call = resending place frames; reply = Taken r }) ≡ ordered.event (station_seen r) (ordered.resending place)
+  unfolding event_seen is_accepted
   taken-event = rw (writes, no_frames)
 
   seen-taken : SeenReply r (resending place frames) (Taken r) (ordered.resending place)
@@ -80,15 +80,15 @@ module _ (r : Record) (place : ℕ) (frames : List ℕ) (w : whole r ≡ true) (
 -- ---- either way
 
 abbrev Resends : Record → Call → Reply → Type 0
-Resends r c reply = Quiet r c reply ⊎ SeenReply r c reply (ordered.resending (stationOf c))
+Resends r c reply = Quiet r c reply ⊎ SeenReply r c reply (ordered.resending (station_of c))
 
 resends : (r : Record) (place : ℕ) (frames : List ℕ) → Resends r (resending place frames) (resent r (length frames))
 unfolding resent
 resends r place frames =
     let c = resending place frames in
-    asked (Resends r c) r (leb mostFrames (length frames)) NoRoom _ (inl (quiet-refused r c NoRoom)) (λ room.
+    asked (Resends r c) r (leb most_frames (length frames)) NoRoom _ (inl (quiet-refused r c NoRoom)) (λ room.
     asked (Resends r c) r (whole r) NotWhole _ (inl (quiet-refused r c NotWhole)) (λ w.
-    asked (Resends r c) r (mayResend r.turn) NothingToResend _ (inl (quiet-refused r c NothingToResend)) (λ resendable.
+    asked (Resends r c) r (may_resend r.turn) NothingToResend _ (inl (quiet-refused r c NothingToResend)) (λ resendable.
     inr (seen-taken r place frames w resendable))))
 
 pub sight-resend : (r : Record) (place : ℕ) (frames : List ℕ) → Sight r (resending place frames)

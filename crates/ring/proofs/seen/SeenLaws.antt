@@ -6,65 +6,65 @@ use mathlib.Core.List.{List, [], map}
 use mathlib.Core.Option.{Option, none, some}
 use Rattle.frames.specs.Read.{read_of}
 use Rattle.frames.specs.declared.header.Header.{Header}
-use Rattle.record.specs.Ring.{current, isToken}
+use Rattle.record.specs.Ring.{current, is_token}
 use Rattle.record.specs.declared.Record.{Record}
 use Rattle.station.specs.Reply.{Reply}
-use Rattle.visit.specs.Deliver.{ringHeader}
-use Rattle.visit.specs.Within.{framesUpTo, framesIn}
+use Rattle.visit.specs.Deliver.{ring_header}
+use Rattle.visit.specs.Within.{frames_up_to, frames_in}
 use Rattle.visit.specs.Reads.{Each}
 pub use Rattle.station.proofs.ReplyLaws.{asked}
 use Rattle.ordering.specs.inner.Frame as seen
 use Rattle.ordering.specs.inner.Station.{Station, Store}
 use Rattle.ordering.specs.inner.History as cable
 use Rattle.ordering.specs.inner.Run as ordered
-use Rattle.ring.specs.Calls.{Call, stationOf, replyTo}
-use Rattle.ring.specs.History.{Event, any_of, acceptsToken, isAccepted, handedOver, saidKept}
-use Rattle.ring.proofs.seen.View.{stationSeen, eventSeen, messageIn, keptBy}
+use Rattle.ring.specs.Calls.{Call, station_of, reply_to}
+use Rattle.ring.specs.History.{Event, any_of, accepts_token, is_accepted, handed_over, said_kept}
+use Rattle.ring.proofs.seen.View.{station_seen, event_seen, message_in, kept_by}
 use Rattle.ring.proofs.seen.Law.{Rewrites, SeenAs}
 
 -- `SeenAs`, of a reply
 pub record SeenReply (r : Record) (c : Call) (reply : Reply) (d : ordered.Call) : Type 0 where
-  pub at : ordered.stationOf d ≡ stationOf c
-  pub station : stationSeen reply.rec ≡ ordered.moved (stationSeen r) d
-  pub event : eventSeen (ringHeader (current r)) (record { call = c; reply = reply }) ≡ ordered.event (stationSeen r) d
-  pub ring : ringHeader (current reply.rec) ≡ ringHeader (current r)
-  pub written : Each Rewrites (framesIn reply.frames)
+  pub at : ordered.station_of d ≡ station_of c
+  pub station : station_seen reply.rec ≡ ordered.moved (station_seen r) d
+  pub event : event_seen (ring_header (current r)) (record { call = c; reply = reply }) ≡ ordered.event (station_seen r) d
+  pub ring : ring_header (current reply.rec) ≡ ring_header (current r)
+  pub written : Each Rewrites (frames_in reply.frames)
 
-pub seen_as : (r : Record) (c : Call) (reply : Reply) (d : ordered.Call) → replyTo r c ≡ reply → SeenReply r c reply d → SeenAs r c d
+pub seen_as : (r : Record) (c : Call) (reply : Reply) (d : ordered.Call) → reply_to r c ≡ reply → SeenReply r c reply d → SeenAs r c d
 seen_as r c reply d e s =
     record {
       at = s.at;
-      station = ap (λ (k : Reply). stationSeen k.rec) e ∙ s.station;
-      event = ap (λ (k : Reply). eventSeen (ringHeader (current r)) (record { call = c; reply = k })) e ∙ s.event;
-      ring = ap (λ (k : Reply). ringHeader (current k.rec)) e ∙ s.ring;
-      written = subst (λ (k : Reply). Each Rewrites (framesIn k.frames)) (sym e) s.written;
+      station = ap (λ (k : Reply). station_seen k.rec) e ∙ s.station;
+      event = ap (λ (k : Reply). event_seen (ring_header (current r)) (record { call = c; reply = k })) e ∙ s.event;
+      ring = ap (λ (k : Reply). ring_header (current k.rec)) e ∙ s.ring;
+      written = subst (λ (k : Reply). Each Rewrites (frames_in k.frames)) (sym e) s.written;
     }
 
 -- ---- nothing is written
 
-pub no_frames : framesIn [] ≡ []
-unfolding framesIn framesUpTo
+pub no_frames : frames_in [] ≡ []
+unfolding frames_in frames_up_to
 no_frames = refl
 
-pub none-accepted : (handed : Option (List ℕ)) → acceptsToken handed [] ≡ false
+pub none-accepted : (handed : Option (List ℕ)) → accepts_token handed [] ≡ false
 unfolding any_of
 none-accepted none = refl
-none-accepted (some frame) = and-false (isToken (read_of frame).answer)
+none-accepted (some frame) = and-false (is_token (read_of frame).answer)
 
 -- what a call that writes nothing did
 abbrev pub unwritten : Call → Reply → cable.Event
 unwritten c reply =
     record {
-      place = stationOf c;
-      kept = keptBy (saidKept reply.answer) (handedOver c);
+      place = station_of c;
+      kept = kept_by (said_kept reply.answer) (handed_over c);
       forwarded = none;
       written = [];
-      handed = map messageIn (framesIn reply.deliveries);
+      handed = map message_in (frames_in reply.deliveries);
     }
 
-pub event-unwritten : (ring : Header) (c : Call) (reply : Reply) → reply.frames ≡ [] → eventSeen ring (record { call = c; reply = reply }) ≡ unwritten c reply
-unfolding eventSeen isAccepted
-event-unwritten ring c reply e = rw (e, no_frames, none-accepted (handedOver c))
+pub event-unwritten : (ring : Header) (c : Call) (reply : Reply) → reply.frames ≡ [] → event_seen ring (record { call = c; reply = reply }) ≡ unwritten c reply
+unfolding event_seen is_accepted
+event-unwritten ring c reply e = rw (e, no_frames, none-accepted (handed_over c))
 
 -- two events with the same fields
 pub event-same : (place : ℕ) (kept kept' : Option seen.Message) (written : List seen.Frame) (handed handed' : List seen.Message)

@@ -13,75 +13,75 @@ use Rattle.frames.specs.declared.reader.Answer.{Answer}
 use Rattle.frames.specs.declared.reader.Answer.TheVariants.{Refused, IsMessage, IsToken}
 use Rattle.record.specs.Held.{Entry}
 use Rattle.record.proofs.HeldLaws.{held_at}
-use Rattle.record.specs.Turn.{mayResend, remembered}
+use Rattle.record.specs.Turn.{may_resend, remembered}
 use Rattle.record.specs.Ring.{current, ids}
 use Rattle.record.specs.declared.log.Log.{Log}
 use Rattle.record.specs.declared.turn.Turn.{Turn}
 use Rattle.record.specs.declared.Record.{Record}
-use Rattle.visit.specs.Deliver.{isAgreed, frameWith}
-use Rattle.visit.specs.Within.{framesIn}
+use Rattle.visit.specs.Deliver.{is_agreed, frame_with}
+use Rattle.visit.specs.Within.{frames_in}
 use Rattle.ordering.specs.inner.Frame as seen
 use Rattle.ordering.specs.inner.Station.{Station, Store}
 use Rattle.ordering.specs.inner.History as ordered
 use Rattle.ring.specs.Newest.{last_of}
-use Rattle.ring.specs.History.{Event, place, written_by, handedOver, saidKept, isAccepted, sameRing, saysSafe}
+use Rattle.ring.specs.History.{Event, place, written_by, handed_over, said_kept, is_accepted, same_ring, says_safe}
 
 -- ---- frames
 
-abbrev pub seenBlocker : Blocker → Option ℕ
-seenBlocker Nobody = none
-seenBlocker (Member id) = some id
+abbrev pub seen_blocker : Blocker → Option ℕ
+seen_blocker Nobody = none
+seen_blocker (Member id) = some id
 
-abbrev pub seenToken : Token → List ℕ → seen.Token
-seenToken t text =
+abbrev pub seen_token : Token → List ℕ → seen.Token
+seen_token t text =
     record {
       number = t.number.0;
       addressee = t.addressee;
       highest = t.highest.0;
       aru = t.aru.0;
-      blocker = seenBlocker t.blocker;
+      blocker = seen_blocker t.blocker;
       text = text;
     }
 
 -- the token in a frame
-abbrev pub tokenIn : List ℕ → seen.Token
-tokenIn frame = seenToken (read_of frame).token frame
+abbrev pub token_in : List ℕ → seen.Token
+token_in frame = seen_token (read_of frame).token frame
 
 -- the message in a frame
-abbrev pub messageNumber : Answer → ℕ
-messageNumber (Refused why) = 0
-messageNumber (IsMessage m) = m.number.0
-messageNumber IsToken = 0
+abbrev pub message_number : Answer → ℕ
+message_number (Refused why) = 0
+message_number (IsMessage m) = m.number.0
+message_number IsToken = 0
 
-unfoldable pub messageIn : List ℕ → seen.Message
-messageIn frame = record { number = messageNumber (read_of frame).answer; safe = saysSafe (read_of frame).answer; text = frame }
+unfoldable pub message_in : List ℕ → seen.Message
+message_in frame = record { number = message_number (read_of frame).answer; safe = says_safe (read_of frame).answer; text = frame }
 
 -- a message of the ring is a message; anything else passes for a token
-abbrev pub frameBy : Header → List ℕ → Answer → seen.Frame
-frameBy ring frame (Refused why) = seen.token (tokenIn frame)
-frameBy ring frame (IsMessage m) = cond (sameRing ring m.header) (seen.message (messageIn frame)) (seen.token (tokenIn frame))
-frameBy ring frame IsToken = seen.token (tokenIn frame)
+abbrev pub frame_by : Header → List ℕ → Answer → seen.Frame
+frame_by ring frame (Refused why) = seen.token (token_in frame)
+frame_by ring frame (IsMessage m) = cond (same_ring ring m.header) (seen.message (message_in frame)) (seen.token (token_in frame))
+frame_by ring frame IsToken = seen.token (token_in frame)
 
-unfoldable pub frameSeen : Header → List ℕ → seen.Frame
-frameSeen ring frame = frameBy ring frame (read_of frame).answer
+unfoldable pub frame_seen : Header → List ℕ → seen.Frame
+frame_seen ring frame = frame_by ring frame (read_of frame).answer
 
 -- ---- a station
 
-abbrev pub messageOf : Log → ℕ → Entry → seen.Message
-messageOf l n e = record { number = n; safe = not (isAgreed e); text = frameWith l n e }
+abbrev pub message_of : Log → ℕ → Entry → seen.Message
+message_of l n e = record { number = n; safe = not (is_agreed e); text = frame_with l n e }
 
-abbrev pub messageAt : Log → ℕ → Option Entry → Option seen.Message
-messageAt l n none = none
-messageAt l n (some e) = some (messageOf l n e)
+abbrev pub message_at : Log → ℕ → Option Entry → Option seen.Message
+message_at l n none = none
+message_at l n (some e) = some (message_of l n e)
 
 unfoldable pub store_of : Log → Store
-store_of l n = messageAt l n (held_at l n)
+store_of l n = message_at l n (held_at l n)
 
-unfoldable pub resendableOf : Turn → Option seen.Token
-resendableOf t = cond (mayResend t) (some (tokenIn (remembered t))) none
+unfoldable pub resendable_of : Turn → Option seen.Token
+resendable_of t = cond (may_resend t) (some (token_in (remembered t))) none
 
-unfoldable pub stationSeen : Record → Station
-stationSeen r =
+unfoldable pub station_seen : Record → Station
+station_seen r =
     record {
       members = ids (current r);
       own = r.own;
@@ -90,22 +90,22 @@ stationSeen r =
       delivered = (current r).delivered.0;
       aru = r.turn.aru.0;
       last = r.turn.number.0;
-      resendable = resendableOf r.turn;
+      resendable = resendable_of r.turn;
       held = store_of (current r);
     }
 
 -- ---- a call
 
-abbrev pub keptBy : Bool → Option (List ℕ) → Option seen.Message
-keptBy kept none = none
-keptBy kept (some frame) = cond kept (some (messageIn frame)) none
+abbrev pub kept_by : Bool → Option (List ℕ) → Option seen.Message
+kept_by kept none = none
+kept_by kept (some frame) = cond kept (some (message_in frame)) none
 
-unfoldable pub eventSeen : Header → Event → ordered.Event
-eventSeen ring e =
+unfoldable pub event_seen : Header → Event → ordered.Event
+event_seen ring e =
     record {
       place = place e;
-      kept = keptBy (saidKept e.reply.answer) (handedOver e.call);
-      forwarded = cond (isAccepted e) (some (tokenIn (last_of [] (written_by e)))) none;
-      written = map (frameSeen ring) (written_by e);
-      handed = map messageIn (framesIn e.reply.deliveries);
+      kept = kept_by (said_kept e.reply.answer) (handed_over e.call);
+      forwarded = cond (is_accepted e) (some (token_in (last_of [] (written_by e)))) none;
+      written = map (frame_seen ring) (written_by e);
+      handed = map message_in (frames_in e.reply.deliveries);
     }

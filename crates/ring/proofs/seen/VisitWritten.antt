@@ -7,14 +7,14 @@ use mathlib.Core.List.{List, [], ◌∷◌, ◌++◌, map, map-append}
 use mathlib.Core.Option.{some}
 use borrow.Author.Tests.{eq-eqb}
 use native.Mathlib.Omega.{arith}
-use Rattle.frames.specs.Token.{tokenBytes}
+use Rattle.frames.specs.Token.{token_bytes}
 use Rattle.frames.specs.Read.{read_of}
 use Rattle.frames.specs.declared.header.Header.{Header}
 use Rattle.frames.specs.declared.reader.Reading.{Reading}
 use Rattle.record.specs.declared.log.Log.{Log}
-use Rattle.visit.specs.Deliver.{ringHeader, frame_of}
-use Rattle.visit.specs.Visit.{Visit, log, repeats, newCount, newNumbers, logNow, token', written}
-use Rattle.record.specs.Count.{numbersAfter}
+use Rattle.visit.specs.Deliver.{ring_header, frame_of}
+use Rattle.visit.specs.Visit.{Visit, log, repeats, new_count, new_numbers, log_now, token', written}
+use Rattle.record.specs.Count.{numbers_after}
 use Rattle.visit.specs.Reads.{Each, HeldReads}
 use Rattle.visit.specs.Acceptable.{Acceptable}
 use Rattle.visit.proofs.EachLaws.{each_append}
@@ -25,12 +25,12 @@ use Rattle.ordering.specs.Lists.{Among}
 use Rattle.ordering.specs.inner.Frame as seen
 use Rattle.ordering.specs.inner.Visit as visit
 use Rattle.ordering.specs.inner.Visit.{NumberedFrom, Allowed}
-use Rattle.record.specs.Ring.{isToken}
-use Rattle.ring.specs.History.{isTokenNumbered, any_of}
+use Rattle.record.specs.Ring.{is_token}
+use Rattle.ring.specs.History.{is_token_numbered, any_of}
 use Rattle.ring.specs.Newest.{last_of}
-use Rattle.ring.proofs.seen.View.{seenToken, store_of, stationSeen, frameSeen}
+use Rattle.ring.proofs.seen.View.{seen_token, store_of, station_seen, frame_seen}
 use Rattle.ring.proofs.seen.Law.{Rewrites}
-use Rattle.ring.proofs.seen.StoreLaws.{messageHeld, store-held}
+use Rattle.ring.proofs.seen.StoreLaws.{message_held, store-held}
 use Rattle.ring.proofs.seen.FrameLaws.{held-frame, held-rewrites, frame-token, token-rewrites}
 use Rattle.ring.proofs.seen.VisitMarks.{chosen, new-count}
 use Rattle.ring.proofs.seen.VisitToken.{token-after}
@@ -38,7 +38,7 @@ use Rattle.ring.proofs.seen.VisitToken.{token-after}
 -- ---- frames of held messages
 
 module _ (l : Log) where
-  all_seen : (ring : Header) → ring ≡ ringHeader l → (ns : List ℕ) → Each (HeldReads l) ns → map (frameSeen ring) (map (frame_of l) ns) ≡ map seen.message (map (messageHeld l) ns)
+  all_seen : (ring : Header) → ring ≡ ring_header l → (ns : List ℕ) → Each (HeldReads l) ns → map (frame_seen ring) (map (frame_of l) ns) ≡ map seen.message (map (message_held l) ns)
   all_seen ring e [] all = refl
   all_seen ring e (n ∷ ns) all = rw (held-frame l n all.0 ring e, all_seen ring e ns all.1)
 
@@ -47,13 +47,13 @@ module _ (l : Log) where
   all-rewrite (n ∷ ns) all = (held-rewrites l n all.0, all-rewrite ns all.1)
 
   -- a message of those is held
-  among-held : (ns : List ℕ) → Each (HeldReads l) ns → (x : seen.Message) → Among x (map (messageHeld l) ns) → (n : ℕ) × (store_of l n ≡ some x)
+  among-held : (ns : List ℕ) → Each (HeldReads l) ns → (x : seen.Message) → Among x (map (message_held l) ns) → (n : ℕ) × (store_of l n ≡ some x)
   among-held [] all x there = absurd there
   among-held (n ∷ ns) all x (inl e) = (n, store-held l n all.0.0 ∙ ap some (sym e))
   among-held (n ∷ ns) all x (inr there) = among-held ns all.1 x there
 
-  numbered : (highest k : ℕ) → NumberedFrom highest (map (messageHeld l) (numbersAfter highest k))
-  unfolding numbersAfter
+  numbered : (highest k : ℕ) → NumberedFrom highest (map (message_held l) (numbers_after highest k))
+  unfolding numbers_after
   numbered highest zero = tt
   numbered highest (suc k) = (refl, numbered (suc highest) k)
 
@@ -72,56 +72,56 @@ any_last test (y ∷ xs) x e = rw (any_last test xs x e) (or-true (test y))
 
 module _ (v : Visit) (ok : Acceptable v) where
   abbrev messages : List (List ℕ)
-  messages = map (frame_of (log v)) (repeats v) ++ map (frame_of (logNow v)) (newNumbers v)
+  messages = map (frame_of (log v)) (repeats v) ++ map (frame_of (log_now v)) (new_numbers v)
 
   -- the token is written last
-  written_last : written v ≡ messages ++ (tokenBytes (token' v) ∷ [])
+  written_last : written v ≡ messages ++ (token_bytes (token' v) ∷ [])
   unfolding written
   written_last = refl
 
-  pub last_written : last_of [] (written v) ≡ tokenBytes (token' v)
-  last_written = rw written_last (last-of [] messages (tokenBytes (token' v)))
+  pub last_written : last_of [] (written v) ≡ token_bytes (token' v)
+  last_written = rw written_last (last-of [] messages (token_bytes (token' v)))
 
-  token-there : isToken (read_of (tokenBytes (token' v))).answer ≡ true
-  token-there = ap (λ (r : Reading). isToken r.answer) (token-reads v ok)
+  token-there : is_token (read_of (token_bytes (token' v))).answer ≡ true
+  token-there = ap (λ (r : Reading). is_token r.answer) (token-reads v ok)
 
-  numbered-there : isTokenNumbered (v.token.number.0 + 1) (tokenBytes (token' v)) ≡ true
-  unfolding isTokenNumbered token'
+  numbered-there : is_token_numbered (v.token.number.0 + 1) (token_bytes (token' v)) ≡ true
+  unfolding is_token_numbered token'
   numbered-there = rw (token-reads v ok) (eq-eqb (v.token.number.0 + 1) (v.token.number.0 + 1) refl)
 
   -- the answer writes the token with the next number
-  pub next-written : any_of (isTokenNumbered (v.token.number.0 + 1)) (written v) ≡ true
-  next-written = rw written_last (any_last (isTokenNumbered (v.token.number.0 + 1)) messages (tokenBytes (token' v)) numbered-there)
+  pub next-written : any_of (is_token_numbered (v.token.number.0 + 1)) (written v) ≡ true
+  next-written = rw written_last (any_last (is_token_numbered (v.token.number.0 + 1)) messages (token_bytes (token' v)) numbered-there)
 
   pub rewrites : Each Rewrites (written v)
   unfolding written
   rewrites =
-      each_append Rewrites messages (tokenBytes (token' v) ∷ [])
-      (each_append Rewrites (map (frame_of (log v)) (repeats v)) (map (frame_of (logNow v)) (newNumbers v))
+      each_append Rewrites messages (token_bytes (token' v) ∷ [])
+      (each_append Rewrites (map (frame_of (log v)) (repeats v)) (map (frame_of (log_now v)) (new_numbers v))
       (all-rewrite (log v) (repeats v) (visit-reads v ok).repeated)
-      (all-rewrite (logNow v) (newNumbers v) (visit-reads v ok).sent))
-      (token-rewrites (tokenBytes (token' v)) token-there, tt)
+      (all-rewrite (log_now v) (new_numbers v) (visit-reads v ok).sent))
+      (token-rewrites (token_bytes (token' v)) token-there, tt)
 
   module _ (frame : List ℕ) where
-    pub written_after : map (frameSeen (ringHeader (log v))) (written v) ≡ visit.visitWrites (stationSeen v.rec) (seenToken v.token frame) (chosen v)
-    unfolding written visit.visitWrites
+    pub written_after : map (frame_seen (ring_header (log v))) (written v) ≡ visit.visit_writes (station_seen v.rec) (seen_token v.token frame) (chosen v)
+    unfolding written visit.visit_writes
     written_after =
-        let ring = ringHeader (log v) in
-        let f = frameSeen ring in
-        map-append f messages (tokenBytes (token' v) ∷ [])
+        let ring = ring_header (log v) in
+        let f = frame_seen ring in
+        map-append f messages (token_bytes (token' v) ∷ [])
         ∙ rw (
-          map-append f (map (frame_of (log v)) (repeats v)) (map (frame_of (logNow v)) (newNumbers v)),
+          map-append f (map (frame_of (log v)) (repeats v)) (map (frame_of (log_now v)) (new_numbers v)),
           all_seen (log v) ring refl (repeats v) (visit-reads v ok).repeated,
-          all_seen (logNow v) ring (sym (now-ring v ok)) (newNumbers v) (visit-reads v ok).sent,
-          frame-token ring (tokenBytes (token' v)) token-there,
+          all_seen (log_now v) ring (sym (now-ring v ok)) (new_numbers v) (visit-reads v ok).sent,
+          frame-token ring (token_bytes (token' v)) token-there,
           token-after v ok frame,
         )
 
-    pub allowed : Allowed (stationSeen v.rec) (seenToken v.token frame) (chosen v)
-    unfolding stationSeen newNumbers
+    pub allowed : Allowed (station_seen v.rec) (seen_token v.token frame) (chosen v)
+    unfolding station_seen new_numbers
     allowed =
         record {
           repeats = among-held (log v) (repeats v) (visit-reads v ok).repeated;
-          added = numbered (logNow v) v.token.highest.0 (newCount v);
+          added = numbered (log_now v) v.token.highest.0 (new_count v);
           few = omega (arith, new-count v ok frame, new-window v);
         }

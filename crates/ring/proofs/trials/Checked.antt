@@ -11,21 +11,21 @@ use Rattle.frames.specs.trials.Trials.{same}
 use Rattle.frames.proofs.Facts.{part}
 use Rattle.record.specs.declared.Record.{Record}
 use Rattle.ordering.specs.Lists.{Among}
-use Rattle.ring.specs.Calls.{Call, post, arrival, resending, stationOf}
-use Rattle.ring.specs.History.{Event, Written, writtenAt, writtenIn, OnCable}
-use Rattle.ring.specs.Run.{Ring, start, firstFrame, step, run, accountOf, structs}
+use Rattle.ring.specs.Calls.{Call, post, arrival, resending, station_of}
+use Rattle.ring.specs.History.{Event, Written, written_at, written_in, OnCable}
+use Rattle.ring.specs.Run.{Ring, start, first_frame, step, run, account_of, structs}
 use Rattle.ring.specs.Demand.{Handed, CanAfter}
 use Rattle.ring.proofs.runs.Going.{Possible}
 use Rattle.ring.proofs.runs.Split.{can-after}
 
 -- ---- a frame is on the cable
 
-unfoldable pub anyFrame : List ℕ → List Written → Bool
-anyFrame f [] = false
-anyFrame f (w ∷ ws) = same f w.frame || anyFrame f ws
+unfoldable pub any_frame : List ℕ → List Written → Bool
+any_frame f [] = false
+any_frame f (w ∷ ws) = same f w.frame || any_frame f ws
 
-abbrev pub onCable : List ℕ → List Event → List ℕ → Bool
-onCable first history f = same f first || anyFrame f (writtenIn history)
+abbrev pub on_cable : List ℕ → List Event → List ℕ → Bool
+on_cable first history f = same f first || any_frame f (written_in history)
 
 same_true : (xs ys : List ℕ) → same xs ys ≡ true → xs ≡ ys
 same_true [] [] e = refl
@@ -40,32 +40,32 @@ either : (a b : Bool) → (a || b) ≡ true → (a ≡ true) ⊎ (b ≡ true)
 either true b e = inl refl
 either false b e = inr e
 
-any-among : (f : List ℕ) (ws : List Written) → anyFrame f ws ≡ true → (place : ℕ) × Among (writtenAt place f) ws
-unfolding anyFrame
+any-among : (f : List ℕ) (ws : List Written) → any_frame f ws ≡ true → (place : ℕ) × Among (written_at place f) ws
+unfolding any_frame
 any-among f [] e = absurd (false≢true e)
-any-among f (w ∷ ws) e = by_first (either (same f w.frame) (anyFrame f ws) e) (any-among f ws)
+any-among f (w ∷ ws) e = by_first (either (same f w.frame) (any_frame f ws) e) (any-among f ws)
   where
-    by_first : (same f w.frame ≡ true) ⊎ (anyFrame f ws ≡ true) → (anyFrame f ws ≡ true → (place : ℕ) × Among (writtenAt place f) ws) → (place : ℕ) × Among (writtenAt place f) (w ∷ ws)
-    by_first (inl s) rest = (w.place, inl (ap (writtenAt w.place) (same_true f w.frame s)))
+    by_first : (same f w.frame ≡ true) ⊎ (any_frame f ws ≡ true) → (any_frame f ws ≡ true → (place : ℕ) × Among (written_at place f) ws) → (place : ℕ) × Among (written_at place f) (w ∷ ws)
+    by_first (inl s) rest = (w.place, inl (ap (written_at w.place) (same_true f w.frame s)))
     by_first (inr s) rest = let a = rest s in (a.0, inr a.1)
 
-on-cable : (first : List ℕ) (history : List Event) (f : List ℕ) → onCable first history f ≡ true → OnCable (first ∷ []) history f
-on-cable first history f e = by_first (either (same f first) (anyFrame f (writtenIn history)) e)
+on-cable : (first : List ℕ) (history : List Event) (f : List ℕ) → on_cable first history f ≡ true → OnCable (first ∷ []) history f
+on-cable first history f e = by_first (either (same f first) (any_frame f (written_in history)) e)
   where
-    by_first : (same f first ≡ true) ⊎ (anyFrame f (writtenIn history) ≡ true) → OnCable (first ∷ []) history f
+    by_first : (same f first ≡ true) ⊎ (any_frame f (written_in history) ≡ true) → OnCable (first ∷ []) history f
     by_first (inl s) = inl (inl (same_true f first s))
-    by_first (inr s) = inr (any-among f (writtenIn history) s)
+    by_first (inr s) = inr (any-among f (written_in history) s)
 
 -- ---- the calls can be made
 
 abbrev pub handed : List ℕ → List Event → Call → Bool
 handed first history (post place service content) = true
-handed first history (arrival place frame frames deliveries) = onCable first history frame
+handed first history (arrival place frame frames deliveries) = on_cable first history frame
 handed first history (resending place frames) = true
 
 unfoldable pub possible : ℕ → List ℕ → Ring Record → List Call → Bool
 possible size first s [] = true
-possible size first s (c ∷ cs) = ltb (stationOf c) size && handed first s.history c && possible size first (step structs s c) cs
+possible size first s (c ∷ cs) = ltb (station_of c) size && handed first s.history c && possible size first (step structs s c) cs
 
 handed-over : (first : List ℕ) (history : List Event) (c : Call) → handed first history c ≡ true → Handed (first ∷ []) history c
 handed-over first history (post place service content) e = tt
@@ -76,12 +76,12 @@ is-possible : (size : ℕ) (first : List ℕ) (s : Ring Record) (cs : List Call)
 unfolding possible
 is-possible size first s [] e = tt
 is-possible size first s (c ∷ cs) e = (
-  ltb-true (stationOf c) size (part e (λ (f : ltb (stationOf c) size ≡ false). rw f)),
+  ltb-true (station_of c) size (part e (λ (f : ltb (station_of c) size ≡ false). rw f)),
   handed-over first s.history c (part e (λ (f : handed first s.history c ≡ false). simp (f, and-false))),
   is-possible size first (step structs s c) cs (part e (λ (f : possible size first (step structs s c) cs ≡ false). simp (f, and-false))),
 )
 
 module _ (members : List ℕ) (ring : ℕ) (founded : ℕ → Record) where
-  pub can-be-made : (cs : List Call) → possible (length members) (firstFrame members ring) (start founded) cs ≡ true → CanAfter members ring (accountOf structs founded) [] cs
+  pub can-be-made : (cs : List Call) → possible (length members) (first_frame members ring) (start founded) cs ≡ true → CanAfter members ring (account_of structs founded) [] cs
   unfolding run
-  can-be-made cs e = can-after members ring founded [] cs (is-possible (length members) (firstFrame members ring) (start founded) cs e)
+  can-be-made cs e = can-after members ring founded [] cs (is-possible (length members) (first_frame members ring) (start founded) cs e)

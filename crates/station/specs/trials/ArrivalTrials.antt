@@ -11,15 +11,15 @@ use Rattle.visit.specs.Deliver.{entry_of}
 use Rattle.station.specs.Post.{posted}
 use Rattle.station.specs.Resend.{resent}
 use Rattle.station.specs.Arrive.{arrived}
-use Rattle.visit.specs.trials.Sample.{Trial, row, yes, row_of, members, station, reachedWith, reachedTo, safeTo, turnWith, level7, level10}
+use Rattle.visit.specs.trials.Sample.{Trial, row, yes, row_of, members, station, reached_with, reached_to, safe_to, turn_with, level7, level10}
 use Rattle.visit.specs.trials.Marks.{marking}
-use Rattle.station.specs.trials.Sample.{refusal, outcome, bytes, loadedWith, messageFrame, tokenFrame, arrives, heard, visited, framesCount, frame_at, tokenLeft, aruLeft, requestsLeft, countsLeft, stallLeft, marks}
+use Rattle.station.specs.trials.Sample.{refusal, outcome, bytes, loaded_with, message_frame, token_frame, arrives, heard, visited, frames_count, frame_at, token_left, aru_left, requests_left, counts_left, stall_left, marks}
 
 abbrev pub level31 : Record
-level31 = reachedTo 31
+level31 = reached_to 31
 
 abbrev pub level32 : Record
-level32 = reachedTo 32
+level32 = reached_to 32
 
 abbrev pub samples : List Trial
 samples =
@@ -37,7 +37,7 @@ having32 = (heard station 32 0 (bytes 1)).rec
 
 -- safe mark 10, nothing held
 abbrev pub safe10 : Record
-safe10 = safeTo 10
+safe10 = safe_to 10
 
 abbrev pub messages : List Trial
 messages =
@@ -70,13 +70,13 @@ messages =
 abbrev pub arus : List Trial
 arus =
     -- * highest 10, aru 10, nobody; level 7: leaves 7, blocker 7
-    row_of (aruLeft (visited level7 4 10 10 Nobody 0 [])) (7 ∷ 7 ∷ [])
+    row_of (aru_left (visited level7 4 10 10 Nobody 0 [])) (7 ∷ 7 ∷ [])
     -- * highest 10, aru 5, blocker 9; level 7: leaves 5, blocker 9
-    ∷ row_of (aruLeft (visited level7 4 10 5 (Member 9) 0 [])) (5 ∷ 9 ∷ [])
+    ∷ row_of (aru_left (visited level7 4 10 5 (Member 9) 0 [])) (5 ∷ 9 ∷ [])
     -- * highest 10, aru 5, blocker 7; level 10: leaves 10, nobody
-    ∷ row_of (aruLeft (visited level10 4 10 5 (Member 7) 0 [])) (10 ∷ 0 ∷ [])
+    ∷ row_of (aru_left (visited level10 4 10 5 (Member 7) 0 [])) (10 ∷ 0 ∷ [])
     -- the level below the aru, with another as blocker: leaves the level, blocker 7
-    ∷ row_of (aruLeft (visited level7 4 10 9 (Member 9) 0 [])) (7 ∷ 7 ∷ [])
+    ∷ row_of (aru_left (visited level7 4 10 9 (Member 9) 0 [])) (7 ∷ 7 ∷ [])
     ∷ []
 
 -- the station has forwarded 10, in token 5
@@ -94,9 +94,9 @@ abbrev pub forwarding : List Trial
 forwarding =
     -- to the next member, with the next number; after the last member comes the first
     row (outcome forwarded) 6
-    ∷ row (tokenLeft forwarded).addressee 9
-    ∷ row (tokenLeft forwarded).number.0 5
-    ∷ row (tokenLeft (arrives (fresh members 9 4) (tokenFrame 4 9 4 0 0 Nobody 0 []))).addressee 3
+    ∷ row (token_left forwarded).addressee 9
+    ∷ row (token_left forwarded).number.0 5
+    ∷ row (token_left (arrives (fresh members 9 4) (token_frame 4 9 4 0 0 Nobody 0 []))).addressee 3
     -- after one forwarding nothing is safe; all is delivered
     ∷ row_of (marks forwarded) (10 ∷ 0 ∷ 10 ∷ [])
     -- * forwarded 10, then 7: safe mark 7
@@ -110,47 +110,47 @@ forwarding =
 
 -- round count 30, own last 10, three repeats, ten posts
 abbrev pub busy : Reply
-busy = visited (loadedWith 10 (reachedWith 10 (turnWith 0 10 0))) 4 10 10 Nobody 30 (3 ∷ 1 ∷ 2 ∷ [])
+busy = visited (loaded_with 10 (reached_with 10 (turn_with 0 10 0))) 4 10 10 Nobody 30 (3 ∷ 1 ∷ 2 ∷ [])
 
 -- ten posts wait, at level 10
 abbrev pub loaded : Record
-loaded = loadedWith 10 level10
+loaded = loaded_with 10 level10
 
 abbrev pub flow : List Trial
 flow =
     -- * round count 30, own last 10, three repeats, many posts: one new, leaves 24
-    row_of (countsLeft busy) (5 ∷ 11 ∷ 24 ∷ 9 ∷ [])
+    row_of (counts_left busy) (5 ∷ 11 ∷ 24 ∷ 9 ∷ [])
     -- written out: repeats in the order of the requests, the new message, the token
-    ∷ row_of (frame_at busy 0) (messageFrame 4 3 3 0 [])
-    ∷ row_of (frame_at busy 1) (messageFrame 4 3 1 0 [])
-    ∷ row_of (frame_at busy 2) (messageFrame 4 3 2 0 [])
-    ∷ row_of (frame_at busy 3) (messageFrame 4 7 11 0 (bytes 1))
+    ∷ row_of (frame_at busy 0) (message_frame 4 3 3 0 [])
+    ∷ row_of (frame_at busy 1) (message_frame 4 3 1 0 [])
+    ∷ row_of (frame_at busy 2) (message_frame 4 3 2 0 [])
+    ∷ row_of (frame_at busy 3) (message_frame 4 7 11 0 (bytes 1))
     -- its own count of broadcasts is remembered
     ∷ row busy.rec.turn.broadcast 4
     -- * round count 24, own last 0: no new message
-    ∷ row_of (countsLeft (visited loaded 4 10 10 Nobody 24 [])) (1 ∷ 10 ∷ 24 ∷ 10 ∷ [])
+    ∷ row_of (counts_left (visited loaded 4 10 10 Nobody 24 [])) (1 ∷ 10 ∷ 24 ∷ 10 ∷ [])
     -- 8 new at most; safe mark + 32; 2,000,000,000; the posts
-    ∷ row_of (countsLeft (visited loaded 4 10 10 Nobody 0 [])) (9 ∷ 18 ∷ 8 ∷ 2 ∷ [])
-    ∷ row_of (countsLeft (visited (loadedWith 10 level31) 4 31 31 Nobody 0 [])) (2 ∷ 32 ∷ 1 ∷ 9 ∷ [])
-    ∷ row_of (countsLeft (visited (loadedWith 2 (safeTo 1999999999)) 4 1999999999 1999999999 Nobody 0 [])) (2 ∷ 2000000000 ∷ 1 ∷ 1 ∷ [])
-    ∷ row_of (countsLeft (visited (loadedWith 2 level10) 4 10 10 Nobody 0 [])) (3 ∷ 12 ∷ 2 ∷ 0 ∷ [])
+    ∷ row_of (counts_left (visited loaded 4 10 10 Nobody 0 [])) (9 ∷ 18 ∷ 8 ∷ 2 ∷ [])
+    ∷ row_of (counts_left (visited (loaded_with 10 level31) 4 31 31 Nobody 0 [])) (2 ∷ 32 ∷ 1 ∷ 9 ∷ [])
+    ∷ row_of (counts_left (visited (loaded_with 2 (safe_to 1999999999)) 4 1999999999 1999999999 Nobody 0 [])) (2 ∷ 2000000000 ∷ 1 ∷ 1 ∷ [])
+    ∷ row_of (counts_left (visited (loaded_with 2 level10) 4 10 10 Nobody 0 [])) (3 ∷ 12 ∷ 2 ∷ 0 ∷ [])
     ∷ []
 
 -- the size of the frame in which a content of n bytes is broadcast
-abbrev pub broadcastSize : ℕ → ℕ
-broadcastSize n = length (frame_at (visited (posted station 0 (bytes n)).rec 4 0 0 Nobody 0 []) 0)
+abbrev pub broadcast_size : ℕ → ℕ
+broadcast_size n = length (frame_at (visited (posted station 0 (bytes n)).rec 4 0 0 Nobody 0 []) 0)
 
 abbrev pub contents : List Trial
 contents =
     -- * content 0: frame of 22 bytes. 64: 86 bytes. 65: 7
-    row (broadcastSize 0) 22
-    ∷ row (broadcastSize 64) 86
+    row (broadcast_size 0) 22
+    ∷ row (broadcast_size 64) 86
     ∷ row (refusal (posted station 0 (bytes 65))) 7
     ∷ []
 
 -- level 7, aru 7 forwarded, this stall count
 abbrev pub stalled : ℕ → Record
-stalled count = reachedWith 7 (turnWith 7 0 count)
+stalled count = reached_with 7 (turn_with 7 0 count)
 
 abbrev pub stalled9 : Record
 stalled9 = stalled 9
@@ -161,14 +161,14 @@ stalled10 = stalled 10
 abbrev pub stalling : List Trial
 stalling =
     -- above 10 with oneself as blocker: the notice 'deaf'
-    row_of (stallLeft (visited stalled10 4 10 7 (Member 7) 0 [])) (7 ∷ 11 ∷ [])
-    ∷ row_of (stallLeft (visited stalled9 4 10 7 (Member 7) 0 [])) (0 ∷ 10 ∷ [])
+    row_of (stall_left (visited stalled10 4 10 7 (Member 7) 0 [])) (7 ∷ 11 ∷ [])
+    ∷ row_of (stall_left (visited stalled9 4 10 7 (Member 7) 0 [])) (0 ∷ 10 ∷ [])
     -- another is the blocker
-    ∷ row_of (stallLeft (visited stalled10 4 10 7 (Member 9) 0 [])) (0 ∷ 11 ∷ [])
+    ∷ row_of (stall_left (visited stalled10 4 10 7 (Member 9) 0 [])) (0 ∷ 11 ∷ [])
     -- at most 255; 0 with another aru, or with nobody
-    ∷ row_of (stallLeft (visited (stalled 255) 4 10 7 (Member 7) 0 [])) (7 ∷ 255 ∷ [])
-    ∷ row_of (stallLeft (visited stalled10 4 10 5 (Member 9) 0 [])) (0 ∷ 0 ∷ [])
-    ∷ row_of (stallLeft (visited stalled10 4 7 7 Nobody 0 [])) (0 ∷ 0 ∷ [])
+    ∷ row_of (stall_left (visited (stalled 255) 4 10 7 (Member 7) 0 [])) (7 ∷ 255 ∷ [])
+    ∷ row_of (stall_left (visited stalled10 4 10 5 (Member 9) 0 [])) (0 ∷ 0 ∷ [])
+    ∷ row_of (stall_left (visited stalled10 4 7 7 Nobody 0 [])) (0 ∷ 0 ∷ [])
     ∷ []
 
 -- 9 is not held, 5 is
@@ -178,14 +178,14 @@ asked = visited level7 4 10 7 (Member 9) 0 (9 ∷ 5 ∷ [])
 abbrev pub requesting : List Trial
 requesting =
     -- level 7 of highest 10 asks for 8, 9 and 10
-    row_of (requestsLeft (visited level7 4 10 10 Nobody 0 [])) (8 ∷ 9 ∷ 10 ∷ [])
+    row_of (requests_left (visited level7 4 10 10 Nobody 0 [])) (8 ∷ 9 ∷ 10 ∷ [])
     -- a request whose message is held is struck off, and written first; one already listed is not added
-    ∷ row_of (frame_at asked 0) (messageFrame 4 3 5 0 [])
-    ∷ row (framesCount asked) 2
-    ∷ row_of (requestsLeft asked) (9 ∷ 8 ∷ 10 ∷ [])
+    ∷ row_of (frame_at asked 0) (message_frame 4 3 5 0 [])
+    ∷ row (frames_count asked) 2
+    ∷ row_of (requests_left asked) (9 ∷ 8 ∷ 10 ∷ [])
     -- sixteen at most, and none above safe mark + 32
-    ∷ row_of (requestsLeft (visited station 4 40 40 Nobody 0 [])) (from1to 16)
-    ∷ row_of (requestsLeft (visited (reachedTo 30) 4 40 40 Nobody 0 [])) (31 ∷ 32 ∷ [])
+    ∷ row_of (requests_left (visited station 4 40 40 Nobody 0 [])) (from1to 16)
+    ∷ row_of (requests_left (visited (reached_to 30) 4 40 40 Nobody 0 [])) (31 ∷ 32 ∷ [])
     ∷ []
 
 -- ---- safe delivery: message 1 is safe, message 2 agreed
@@ -213,7 +213,7 @@ delivering =
     -- not after one forwarding
     ∷ row (length once.deliveries) 0
     -- when the safe mark reaches it, both in order
-    ∷ row_of twice.deliveries (messageFrame 4 3 1 1 (bytes 2) ++ messageFrame 4 3 2 0 [])
+    ∷ row_of twice.deliveries (message_frame 4 3 1 1 (bytes 2) ++ message_frame 4 3 2 0 [])
     ∷ row_of (marks twice) (2 ∷ 2 ∷ 2 ∷ [])
     -- let go, and had
     ∷ row (outcome (heard twice.rec 1 1 (bytes 2))) 4
@@ -223,7 +223,7 @@ delivering =
 
 -- the token that `forwarded` accepted
 abbrev pub token4 : List ℕ
-token4 = tokenFrame 4 7 4 10 10 Nobody 0 []
+token4 = token_frame 4 7 4 10 10 Nobody 0 []
 
 abbrev pub door : List Trial
 door =
@@ -233,34 +233,34 @@ door =
     ∷ row (outcome (arrived level10 token4 1472 2752)) 6
     -- not whole: founded by one alone; an aru above the level
     ∷ row (refusal (arrives (fresh (7 ∷ []) 7 4) [])) 2
-    ∷ row (refusal (arrives (reachedWith 7 (turnWith 8 0 0)) token4)) 2
+    ∷ row (refusal (arrives (reached_with 7 (turn_with 8 0 0)) token4)) 2
     -- the reader's
     ∷ row (refusal (arrives level10 (take 31 token4))) 10
     ∷ row (refusal (arrives level10 (set token4 2 3))) 11
     ∷ row (refusal (visited level10 4 10 10 Nobody 129 [])) 12
     -- another ring's number, another representative
-    ∷ row (refusal (arrives level10 (tokenFrame 5 7 4 10 10 Nobody 0 []))) 13
+    ∷ row (refusal (arrives level10 (token_frame 5 7 4 10 10 Nobody 0 []))) 13
     ∷ row (refusal (arrives level10 (set token4 8 7))) 13
-    ∷ row (refusal (arrives level10 (messageFrame 5 3 11 0 []))) 13
+    ∷ row (refusal (arrives level10 (message_frame 5 3 11 0 []))) 13
     -- sender, addressee, blocker
-    ∷ row (refusal (arrives level10 (messageFrame 4 8 11 0 []))) 14
-    ∷ row (refusal (arrives level10 (tokenFrame 4 8 4 10 10 Nobody 0 []))) 14
+    ∷ row (refusal (arrives level10 (message_frame 4 8 11 0 []))) 14
+    ∷ row (refusal (arrives level10 (token_frame 4 8 4 10 10 Nobody 0 []))) 14
     ∷ row (refusal (visited level10 4 10 5 (Member 8) 0 [])) 14
     -- another addressee
-    ∷ row (refusal (arrives level10 (tokenFrame 4 9 4 10 10 Nobody 0 []))) 15
+    ∷ row (refusal (arrives level10 (token_frame 4 9 4 10 10 Nobody 0 []))) 15
     -- a token repeated: 16; the one forwarded too, but not the next
     ∷ row (refusal (arrives after10 token4)) 16
     ∷ row (refusal (visited after10 5 10 10 Nobody 0 [])) 16
     ∷ row (outcome (visited after10 6 10 10 Nobody 0 [])) 6
     -- token 2,000,000,000: 17; the one before is the last
     ∷ row (refusal (visited level10 2000000000 10 10 Nobody 0 [])) 17
-    ∷ row (tokenLeft (visited level10 1999999999 10 10 Nobody 0 [])).number.0 2000000000
+    ∷ row (token_left (visited level10 1999999999 10 10 Nobody 0 [])).number.0 2000000000
     -- highest below the level, and below a number held
     ∷ row (refusal (visited level10 4 9 9 Nobody 0 [])) 18
     ∷ row (refusal (visited having32 4 31 0 (Member 3) 0 [])) 18
     ∷ row (outcome (visited having32 4 32 0 (Member 3) 0 [])) 6
     -- of several the first
-    ∷ row (refusal (arrives after10 (tokenFrame 4 9 4 9 9 Nobody 0 []))) 15
+    ∷ row (refusal (arrives after10 (token_frame 4 9 4 9 9 Nobody 0 []))) 15
     ∷ row (refusal (visited after10 4 9 9 Nobody 0 [])) 16
     ∷ []
 

@@ -1,34 +1,34 @@
 -- Trials of document 02's requests. [document 02, Jobs 1 and 2]
 use Rattle.std.specs.Prelude.{ℕ, List, [], ◌∷◌, ◌++◌}
-use Rattle.frames.specs.Token.{tokenBytes}
+use Rattle.frames.specs.Token.{token_bytes}
 use Rattle.frames.specs.declared.token.Blocker.TheVariants.{Nobody}
 use Rattle.record.specs.declared.Record.{Record}
 use Rattle.station.specs.Reply.{Reply}
-use Rattle.visit.specs.trials.Sample.{Trial, row, row_of, station, reachedWith, turnWaited, tokenCarrying}
+use Rattle.visit.specs.trials.Sample.{Trial, row, row_of, station, reached_with, turn_waited, token_carrying}
 use Rattle.visit.specs.trials.Shares.{allowing}
-use Rattle.station.specs.trials.Sample.{refusal, loadedWith, arrives, heard, shareLeft}
+use Rattle.station.specs.trials.Sample.{refusal, loaded_with, arrives, heard, share_left}
 use Rattle.station.specs.trials.ArrivalTrials.{heard1, heard2, once, twice}
 
 -- ---- 1. Busy posts get their turn: what is sent; `allowing` has what is allowed
 
 -- n posts wait at a station with this own part of the backlog; a token with this backlog
 abbrev pub shared : ℕ → ℕ → ℕ → Reply
-shared n waited backlog = arrives (loadedWith n (reachedWith 0 (turnWaited 0 0 0 waited))) (tokenBytes (tokenCarrying 4 7 4 0 0 Nobody 0 backlog []))
+shared n waited backlog = arrives (loaded_with n (reached_with 0 (turn_waited 0 0 0 waited))) (token_bytes (token_carrying 4 7 4 0 0 Nobody 0 backlog []))
 
 abbrev pub sharing : List Trial
 sharing =
     -- 16 wait here, none elsewhere: 8 new
-    row_of (shareLeft (shared 16 0 0)) (8 ∷ 8 ∷ 8 ∷ [])
+    row_of (share_left (shared 16 0 0)) (8 ∷ 8 ∷ 8 ∷ [])
     -- 16 here, 80 elsewhere: 4, whether one's own part is on the token or not
-    ∷ row_of (shareLeft (shared 16 0 80)) (4 ∷ 92 ∷ 12 ∷ [])
-    ∷ row_of (shareLeft (shared 16 16 96)) (4 ∷ 92 ∷ 12 ∷ [])
+    ∷ row_of (share_left (shared 16 0 80)) (4 ∷ 92 ∷ 12 ∷ [])
+    ∷ row_of (share_left (shared 16 16 96)) (4 ∷ 92 ∷ 12 ∷ [])
     -- 1 here, 96 elsewhere: the share is 0, so 1
-    ∷ row_of (shareLeft (shared 1 0 96)) (1 ∷ 96 ∷ 0 ∷ [])
+    ∷ row_of (share_left (shared 1 0 96)) (1 ∷ 96 ∷ 0 ∷ [])
     -- nothing waits; one's own part is taken off, not below 0
-    ∷ row_of (shareLeft (shared 0 5 96)) (0 ∷ 91 ∷ 0 ∷ [])
-    ∷ row_of (shareLeft (shared 0 16 5)) (0 ∷ 0 ∷ 0 ∷ [])
+    ∷ row_of (share_left (shared 0 5 96)) (0 ∷ 91 ∷ 0 ∷ [])
+    ∷ row_of (share_left (shared 0 16 5)) (0 ∷ 0 ∷ 0 ∷ [])
     -- 128 in all
-    ∷ row_of (shareLeft (shared 16 0 128)) (2 ∷ 128 ∷ 14 ∷ [])
+    ∷ row_of (share_left (shared 16 0 128)) (2 ∷ 128 ∷ 14 ∷ [])
     -- backlog 129: 12. An own part of 17: not whole
     ∷ row (refusal (shared 0 0 129)) 12
     ∷ row (refusal (shared 0 17 0)) 2

@@ -1,25 +1,25 @@
 -- Trials of step 1: what is allowed, of the quantities alone; the table of the crate above looks at what is sent. [document 02, Job 1]
 use Rattle.std.specs.Prelude.{ℕ, List, [], ◌∷◌}
 use Rattle.frames.specs.declared.token.Blocker.TheVariants.{Nobody}
-use Rattle.record.specs.Fresh.{freshPosts}
-use Rattle.record.specs.Parts.{withParts}
+use Rattle.record.specs.Fresh.{fresh_posts}
+use Rattle.record.specs.Parts.{with_parts}
 use Rattle.record.specs.declared.posts.Posts.{Posts}
 use Rattle.record.specs.declared.Record.{Record}
 use Rattle.visit.specs.Visit.{Visit, allowance}
 use Rattle.visit.specs.Acceptable.{visit}
-use Rattle.visit.specs.trials.Sample.{Trial, row, station, turnWaited, tokenCarrying}
+use Rattle.visit.specs.trials.Sample.{Trial, row, station, turn_waited, token_carrying}
 
 -- only how many wait counts here
 abbrev pub waiting : ℕ → Posts
-waiting n = record { count = n; services = freshPosts.services; lengths = freshPosts.lengths; contents = freshPosts.contents }
+waiting n = record { count = n; services = fresh_posts.services; lengths = fresh_posts.lengths; contents = fresh_posts.contents }
 
 -- a station where n posts wait, with this own part of the backlog
 abbrev pub busy : ℕ → ℕ → Record
-busy n waited = withParts station station.log (turnWaited 0 0 0 waited) (waiting n)
+busy n waited = with_parts station station.log (turn_waited 0 0 0 waited) (waiting n)
 
 -- a token with this round count and backlog
 abbrev pub visits : Record → ℕ → ℕ → Visit
-visits r round backlog = visit r (tokenCarrying 4 7 4 0 0 Nobody round backlog [])
+visits r round backlog = visit r (token_carrying 4 7 4 0 0 Nobody round backlog [])
 
 abbrev pub allowing : List Trial
 allowing =

@@ -1,11 +1,11 @@
 use Rattle.std.proofs.Common.{rules}
 use Rattle.text.proofs.PutLaws.{put_then}
-use Rattle.bench.specs.Print.{deliveryLine}
+use Rattle.bench.specs.Print.{delivery_line}
 use Rattle.bench.proofs.print.put_delivery.Statement.{statement}
 use Rattle.bench.proofs.print.put_delivery.Tie as tie
 
 returns : tie.Need-returns
-unfolding deliveryLine
+unfolding delivery_line
 returns c = search put_then
 
 pub put-delivery-spec : {M : Type 1} → statement M

@@ -1,11 +1,11 @@
 use Rattle.std.proofs.Common.{rules}
 use Rattle.text.proofs.PutLaws.{put_then}
-use Rattle.bench.specs.Print.{deliveryHead}
+use Rattle.bench.specs.Print.{delivery_head}
 use Rattle.bench.proofs.print.put_head.Statement.{statement}
 use Rattle.bench.proofs.print.put_head.Tie as tie
 
 returns : tie.Need-returns
-unfolding deliveryHead
+unfolding delivery_head
 returns c =
     put_then _ _ _ (put_then _ _ _ (put_then _ _ _
     c.before.before.before.before.before.before.before.before.before.before.before.before.before.before.before.before.put-spaced.ensures

@@ -1,11 +1,11 @@
 use borrow.Author.Rules.{rules}
-use Rattle.dump.specs.Line.{headerText}
+use Rattle.dump.specs.Line.{header_text}
 use Rattle.text.proofs.PutLaws.{put_then}
 use Rattle.dump.proofs.line.put_header.Statement.{statement}
 use Rattle.dump.proofs.line.put_header.Tie as tie
 
 returns : tie.Need-returns
-unfolding headerText
+unfolding header_text
 returns c = search put_then
 
 pub put-header-spec : {M : Type 1} → statement M

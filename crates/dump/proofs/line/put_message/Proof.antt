@@ -1,11 +1,11 @@
 use borrow.Author.Rules.{rules}
-use Rattle.dump.specs.Line.{messageLine}
+use Rattle.dump.specs.Line.{message_line}
 use Rattle.text.proofs.PutLaws.{put_then}
 use Rattle.dump.proofs.line.put_message.Statement.{statement}
 use Rattle.dump.proofs.line.put_message.Tie as tie
 
 returns : tie.Need-returns
-unfolding messageLine
+unfolding message_line
 returns c =
     put_then _ _ _ (put_then _ _ _ (put_then _ _ _
     c.before.before.before.before.before.before.before.before.before.before.before.before.before.before.before.before.put-message-fields.ensures

@@ -1,11 +1,11 @@
 use borrow.Author.Rules.{rules}
-use Rattle.dump.specs.Line.{requestsText}
+use Rattle.dump.specs.Line.{requests_text}
 use Rattle.text.proofs.PutLaws.{put_then}
 use Rattle.dump.proofs.line.put_requests.Statement.{statement}
 use Rattle.dump.proofs.line.put_requests.Tie as tie
 
 returns : tie.Need-returns
-unfolding requestsText
+unfolding requests_text
 returns c =
     put_then _ _ _ (put_then _ _ _
     c.before.before.before.before.before.before.before.before.before.before.before.before.before.put-bytes.ensures (rw

@@ -1,11 +1,11 @@
 use borrow.Author.Rules.{rules}
-use Rattle.dump.specs.Line.{tokenLine}
+use Rattle.dump.specs.Line.{token_line}
 use Rattle.text.proofs.PutLaws.{put_then}
 use Rattle.dump.proofs.line.put_token.Statement.{statement}
 use Rattle.dump.proofs.line.put_token.Tie as tie
 
 returns : tie.Need-returns
-unfolding tokenLine
+unfolding token_line
 returns c =
     put_then _ _ _ (put_then _ _ _ (put_then _ _ _ (put_then _ _ _ (put_then _ _ _
     c.before.before.before.before.before.before.before.before.before.before.before.before.before.before.before.before.before.before.before.before.before.before.before.before.before.before.put-token-fields.ensures

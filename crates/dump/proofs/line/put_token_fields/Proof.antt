@@ -1,11 +1,11 @@
 use borrow.Author.Rules.{rules}
-use Rattle.dump.specs.Line.{tokenFields}
+use Rattle.dump.specs.Line.{token_fields}
 use Rattle.text.proofs.PutLaws.{put_then}
 use Rattle.dump.proofs.line.put_token_fields.Statement.{statement}
 use Rattle.dump.proofs.line.put_token_fields.Tie as tie
 
 returns : tie.Need-returns
-unfolding tokenFields
+unfolding token_fields
 returns c =
     put_then _ _ _ (put_then _ _ _ (put_then _ _ _ (put_then _ _ _
     c.before.before.before.before.before.before.before.before.before.before.before.before.before.before.before.before.before.before.before.before.before.before.put-header.ensures

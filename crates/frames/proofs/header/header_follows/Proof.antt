@@ -1,10 +1,10 @@
 use borrow.Author.Rules.{rules}
-use Rattle.frames.specs.Header.{headerFollows}
+use Rattle.frames.specs.Header.{header_follows}
 use Rattle.frames.proofs.header.header_follows.Statement.{statement}
 use Rattle.frames.proofs.header.header_follows.Tie as tie
 
 returns : tie.Need-returns
-unfolding headerFollows
+unfolding header_follows
 returns c = cc
 
 pub header-follows-spec : {M : Type 1} → statement M

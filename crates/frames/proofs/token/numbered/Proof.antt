@@ -3,7 +3,7 @@ use native.Mathlib.Omega.{arith}
 use borrow.Author.Rules.{rules}
 use Rattle.frames.specs.Token.{numbered}
 use Rattle.frames.specs.declared.number.MessageNumber.{MessageNumber}
-use Rattle.frames.specs.Layout.{mostRequests}
+use Rattle.frames.specs.Layout.{most_requests}
 use Rattle.frames.proofs.NumberedLaws.{Mapping, mapping-starts, mapping-goes, mapping-ends}
 use Rattle.frames.proofs.token.numbered.Statement.{statement}
 use Rattle.frames.proofs.token.numbered.Tie as tie
@@ -12,7 +12,7 @@ abbrev invariant-loop : tie.invariant-loop
 invariant-loop numbers requests₀ i₀ requests i = Mapping {B = MessageNumber} (λ n. record { 0 = n }) numbers i requests
 
 abbrev decreases-loop : tie.decreases-loop
-decreases-loop numbers requests₀ i₀ requests i = mostRequests - i
+decreases-loop numbers requests₀ i₀ requests i = most_requests - i
 
 loop-holds : tie.Need-loop-init invariant-loop decreases-loop
 loop-holds c = mapping-starts _ _ _ (search rules)

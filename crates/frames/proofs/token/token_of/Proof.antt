@@ -1,10 +1,10 @@
 use borrow.Author.Rules.{rules}
-use Rattle.frames.specs.Token.{tokenOf}
+use Rattle.frames.specs.Token.{token_of}
 use Rattle.frames.proofs.token.token_of.Statement.{statement}
 use Rattle.frames.proofs.token.token_of.Tie as tie
 
 returns : tie.Need-returns
-unfolding tokenOf
+unfolding token_of
 returns c = cc
 
 pub token-of-spec : {M : Type 1} → statement M

@@ -4,16 +4,16 @@ use native.Mathlib.Omega.{arith}
 use borrow.Author.Rules.{rules}
 use lib.ListN.{length}
 use lib.Seq.{length-take-le}
-use Rattle.frames.specs.Layout.{mostRequests}
-use Rattle.frames.specs.Token.{requestNumbers}
+use Rattle.frames.specs.Layout.{most_requests}
+use Rattle.frames.specs.Token.{request_numbers}
 use Rattle.frames.proofs.Sizes.{token-length}
 use Rattle.frames.proofs.WriteLaws.{put-long, put-short, put-roomless, token-taken}
 use Rattle.frames.proofs.writer.put_token.Statement.{statement}
 use Rattle.frames.proofs.writer.put_token.Tie as tie
 
-few : (c : tie.Else1) → c.before.before.before.before.before.args.t.count ≤ length (requestNumbers c.before.before.before.before.before.args.t)
+few : (c : tie.Else1) → c.before.before.before.before.before.args.t.count ≤ length (request_numbers c.before.before.before.before.before.args.t)
 few c =
-    let places : length c.before.before.numbers-in.result ≡ mostRequests = search rules in
+    let places : length c.before.before.numbers-in.result ≡ most_requests = search rules in
     omega (arith, places, ap length c.before.before.numbers-in.ensures, c.if1.false)
 
 returns : tie.Need-returns

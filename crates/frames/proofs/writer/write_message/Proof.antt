@@ -2,13 +2,13 @@ use mathlib.Core.Path.{◌≡◌, sym, ◌∙◌}
 use mathlib.Core.Bool.{true}
 use borrow.Author.Rules.{rules}
 use borrow.Author.Tests.{not-true, not-false}
-use Rattle.frames.specs.Message.{messageFollows}
+use Rattle.frames.specs.Message.{message_follows}
 use Rattle.frames.proofs.Sizes.{message-length}
 use Rattle.frames.proofs.WriteLaws.{write-malformed, write-roomless, write-counted, message-put}
 use Rattle.frames.proofs.writer.write_message.Statement.{statement}
 use Rattle.frames.proofs.writer.write_message.Tie as tie
 
-follows : (c : tie.Else1) → messageFollows c.before.before.before.before.args.m c.before.before.before.before.args.content.now ≡ true
+follows : (c : tie.Else1) → message_follows c.before.before.before.before.args.m c.before.before.before.before.args.content.now ≡ true
 follows c = sym c.before.message-follows.ensures ∙ not-false _ c.if1.false
 
 returns : tie.Need-returns

@@ -5,17 +5,17 @@ use native.Mathlib.Omega.{arith}
 use lib.ListN.{length}
 use borrow.Author.Rules.{rules}
 use borrow.Author.Tests.{not-true, not-false}
-use Rattle.frames.specs.Token.{requestNumbers, tokenFollows}
+use Rattle.frames.specs.Token.{request_numbers, token_follows}
 use Rattle.frames.proofs.Facts.{token-facts}
 use Rattle.frames.proofs.Sizes.{token-length}
 use Rattle.frames.proofs.WriteLaws.{write-malformed, write-roomless, write-counted, token-put}
 use Rattle.frames.proofs.writer.write_token.Statement.{statement}
 use Rattle.frames.proofs.writer.write_token.Tie as tie
 
-follows : (c : tie.Else1) → tokenFollows c.before.before.before.args.t ≡ true
+follows : (c : tie.Else1) → token_follows c.before.before.before.args.t ≡ true
 follows c = sym c.before.token-follows.ensures ∙ not-false _ c.if1.false
 
-few : (c : tie.Else1) → c.before.before.before.args.t.count ≤ length (requestNumbers c.before.before.before.args.t)
+few : (c : tie.Else1) → c.before.before.before.args.t.count ≤ length (request_numbers c.before.before.before.args.t)
 few c = let facts = (token-facts _ (follows c)).requests in omega (arith, facts.few, facts.places)
 
 returns : tie.Need-returns

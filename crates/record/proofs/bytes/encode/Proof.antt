@@ -1,7 +1,7 @@
 use mathlib.Core.Path.{ap}
 use native.Mathlib.Omega.{arith}
 use borrow.Author.Rules.{rules}
-use Rattle.record.specs.inner.Head.{recordShowing}
+use Rattle.record.specs.inner.Head.{record_showing}
 use Rattle.record.specs.declared.head.Head.{Head}
 use Rattle.record.proofs.Arrays.{RecordArrays}
 use Rattle.record.proofs.PutLaws.{encoded}
@@ -37,7 +37,7 @@ returns c =
     let start = c.before.before.before.before.before.before.before.before.before.before.before.before.before.before.before.before.before.before in
     let r = start.args.r in
     encoded _ _ _ _ _ _ _ _ _ (arrays start).log.held.contents (arrays start).posts.contents start.requires c.before.before.before.before.before.before.before.before.before.before.before.before.put-bytes.ensures c.before.before.before.before.before.before.before.put-bytes2.ensures
-    (ap (λ (h : Head). recordShowing r.panel h r.log.held.contents r.posts.contents) c.before.before.before.head_of.ensures) c.before.before.put-showing.ensures
+    (ap (λ (h : Head). record_showing r.panel h r.log.held.contents r.posts.contents) c.before.before.before.head_of.ensures) c.before.before.put-showing.ensures
 
 pub encode-spec : {M : Type 1} → statement M
 encode-spec = tie.close (tie.spec slice-aggregate-put-bytes put-bytes-requires slice-aggregate-put-bytes-2 put-bytes-requires-2 (λ c κs. search rules) put-showing-requires (λ c. search rules) returns)

@@ -3,7 +3,7 @@ use mathlib.Core.Path.{◌≡◌, ap}
 use native.Mathlib.Omega.{arith}
 use lib.ListN.{get_or}
 use borrow.Author.Rules.{rules}
-use Rattle.record.specs.Bytes.{recordOf}
+use Rattle.record.specs.Bytes.{record_of}
 use Rattle.record.specs.declared.posts.Posts.{Posts}
 use Rattle.record.proofs.PostLent.{posts-there, post-put}
 use Rattle.record.proofs.bytes.put_post.Statement.{statement}
@@ -12,7 +12,7 @@ use Rattle.record.proofs.bytes.put_post.Tie as tie
 queue-on-requires : tie.Need-queue-on-requires
 queue-on-requires c κs =
     let start = c.before.before.before.before.before.before in
-    let counts : c.before.get-posts-head.result.count ≡ (recordOf start.args.s.now).posts.count = ap (λ (p : Posts). p.count) (posts-there start.args.s.now c.before.get-posts-head.result start.requires.0 c.before.get-posts-head.ensures) in
+    let counts : c.before.get-posts-head.result.count ≡ (record_of start.args.s.now).posts.count = ap (λ (p : Posts). p.count) (posts-there start.args.s.now c.before.get-posts-head.result start.requires.0 c.before.get-posts-head.ensures) in
     (omega (arith, counts, start.requires.1), start.requires.2, search rules)
 
 returns : tie.Need-returns

@@ -1,8 +1,8 @@
 use borrow.Author.Rules.{rules}
 use mathlib.Core.Path.{◌≡◌}
 use lib.ListN.{length}
-use Rattle.frames.specs.Layout.{longestToken}
-use Rattle.record.specs.Size.{mostPosts}
+use Rattle.frames.specs.Layout.{longest_token}
+use Rattle.record.specs.Size.{most_posts}
 use Rattle.record.proofs.Arrays.{HeadArrays}
 use Rattle.record.proofs.PutLaws.{head-stored}
 use Rattle.record.proofs.bytes.put_showing.Statement.{statement}
@@ -19,9 +19,9 @@ returns c =
       services = (let g = fields.0.1.1.1.1.1.1.1 in search rules);
       lengths = (let g = fields.0.1.1.1.1.1.1.1 in search rules);
     } in
-    let token : length start.args.h.turn.token ≡ longestToken = (let g = fields.1.0.1.1.1.1.1.0 in search rules) in
-    let services : length start.args.h.posts.services ≡ mostPosts = (let g = fields.1.1.1.0 in search rules) in
-    let lengths : length start.args.h.posts.lengths ≡ mostPosts = (let g = fields.1.1.1.0 in search rules) in
+    let token : length start.args.h.turn.token ≡ longest_token = (let g = fields.1.0.1.1.1.1.1.0 in search rules) in
+    let services : length start.args.h.posts.services ≡ most_posts = (let g = fields.1.1.1.0 in search rules) in
+    let lengths : length start.args.h.posts.lengths ≡ most_posts = (let g = fields.1.1.1.0 in search rules) in
     head-stored _ _ _ _ _ _ _ _ log token services lengths start.requires c.before.before.before.before.before.before.before.before.before.before.before.before.before.before.before.before.before.before.put-u16.ensures c.before.before.before.before.before.before.before.before.before.before.before.before.before.before.put-u8.ensures c.before.before.before.before.before.before.before.before.before.before.put-log-head.ensures c.before.before.before.before.before.before.put-turn.ensures c.before.before.put-posts-head.ensures
 
 pub put-showing-spec : {M : Type 1} → statement M

@@ -2,13 +2,13 @@ use Prim.Native.Nat.{◌≤◌, ◌-◌}
 use mathlib.Core.Path.{◌≡◌}
 use lib.ListN.{length, take}
 use borrow.Author.Rules.{rules}
-use Rattle.record.specs.Fresh.{membersPlaced}
+use Rattle.record.specs.Fresh.{members_placed}
 use Rattle.record.proofs.FreshLaws.{placed-none, placed-next, placed-all}
 use Rattle.record.proofs.fresh.places_of.Statement.{statement}
 use Rattle.record.proofs.fresh.places_of.Tie as tie
 
 abbrev invariant-loop : tie.invariant-loop
-invariant-loop ids members₀ i₀ members i = (i ≤ length ids) × (members ≡ membersPlaced (take i ids))
+invariant-loop ids members₀ i₀ members i = (i ≤ length ids) × (members ≡ members_placed (take i ids))
 
 abbrev decreases-loop : tie.decreases-loop
 decreases-loop ids members₀ i₀ members i = length ids - i

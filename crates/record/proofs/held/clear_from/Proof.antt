@@ -2,8 +2,8 @@ use Prim.Native.Nat.{◌+◌, ◌-◌, ◌≤◌}
 use mathlib.Core.Path.{◌≡◌}
 use lib.ListN.{length}
 use borrow.Author.Rules.{rules}
-use Rattle.record.specs.Held.{cleared, clearedFrom}
-use Rattle.record.specs.inner.Head.{heldFrom}
+use Rattle.record.specs.Held.{cleared, cleared_from}
+use Rattle.record.specs.inner.Head.{held_from}
 use Rattle.record.proofs.HeldSteps.{cleared-none, cleared_more, cleared-all}
 use Rattle.record.proofs.held.clear_from.Statement.{statement}
 use Rattle.record.proofs.held.clear_from.Tie as tie
@@ -13,7 +13,7 @@ abbrev invariant-loop : tie.invariant-loop
 invariant-loop senders₀ services₀ lengths₀ contents₀ first n i₀ zeros senders services lengths contents i =
     (i ≤ n)
     × (length contents ≡ length contents₀)
-    × (clearedFrom (heldFrom senders services lengths contents) (first + i) (n - i) ≡ clearedFrom (heldFrom senders₀ services₀ lengths₀ contents₀) first n)
+    × (cleared_from (held_from senders services lengths contents) (first + i) (n - i) ≡ cleared_from (held_from senders₀ services₀ lengths₀ contents₀) first n)
 
 abbrev decreases-loop : tie.decreases-loop
 decreases-loop senders₀ services₀ lengths₀ contents₀ first n i₀ zeros senders services lengths contents i = n - i

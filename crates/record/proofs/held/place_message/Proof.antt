@@ -1,10 +1,10 @@
 use borrow.Author.Rules.{rules}
-use Rattle.record.specs.Held.{heldWith}
+use Rattle.record.specs.Held.{held_with}
 use Rattle.record.proofs.held.place_message.Statement.{statement}
 use Rattle.record.proofs.held.place_message.Tie as tie
 
 returns : tie.Need-returns
-unfolding heldWith
+unfolding held_with
 returns c = rw c.before.before.put-content.ensures
 
 pub place-message-spec : {M : Type 1} → statement M

@@ -1,5 +1,5 @@
 use borrow.Author.Rules.{rules}
-use Rattle.record.specs.Members.{idsFollow}
+use Rattle.record.specs.Members.{ids_follow}
 use Rattle.record.proofs.MemberLaws.{ids-none}
 use Rattle.record.proofs.members.ids_follow.Statement.{statement}
 use Rattle.record.proofs.members.ids_follow.Tie as tie
@@ -8,7 +8,7 @@ returns : tie.Need-returns
 returns c = ids-none _ c.if1.true
 
 returns-2 : tie.Need-returns-2
-unfolding idsFollow
+unfolding ids_follow
 returns-2 c = cc
 
 pub ids-follow-spec : {M : Type 1} → statement M

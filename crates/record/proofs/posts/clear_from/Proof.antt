@@ -2,16 +2,16 @@ use Prim.Native.Nat.{◌-◌}
 use mathlib.Core.Path.{◌≡◌}
 use lib.ListN.{length}
 use borrow.Author.Rules.{rules}
-use Rattle.record.specs.Size.{mostPosts, postContents}
+use Rattle.record.specs.Size.{most_posts, post_contents}
 use Rattle.record.proofs.MoveLaws.{Cleared, cleared-starts, cleared-long, cleared-goes, cleared-all}
 use Rattle.record.proofs.posts.clear_from.Statement.{statement}
 use Rattle.record.proofs.posts.clear_from.Tie as tie
 
 abbrev invariant-loop : tie.invariant-loop
-invariant-loop waiting₀ first i₀ zeros waiting i = (length waiting ≡ postContents) × Cleared waiting₀ i₀ i waiting
+invariant-loop waiting₀ first i₀ zeros waiting i = (length waiting ≡ post_contents) × Cleared waiting₀ i₀ i waiting
 
 abbrev decreases-loop : tie.decreases-loop
-decreases-loop waiting₀ first i₀ zeros waiting i = mostPosts - i
+decreases-loop waiting₀ first i₀ zeros waiting i = most_posts - i
 
 loop-holds : tie.Need-loop-init invariant-loop decreases-loop
 loop-holds c = (c.before.requires.1, cleared-starts _ _ c.before.requires.0)

@@ -3,16 +3,16 @@ use mathlib.Core.Path.{◌≡◌, refl}
 use native.Mathlib.Omega.{arith}
 use lib.ListN.{length}
 use borrow.Author.Rules.{rules}
-use Rattle.record.specs.Size.{mostPosts, postContents}
+use Rattle.record.specs.Size.{most_posts, post_contents}
 use Rattle.record.proofs.MoveLaws.{Moved, moved-starts, moved-long, moved-goes}
 use Rattle.record.proofs.posts.move_up.Statement.{statement}
 use Rattle.record.proofs.posts.move_up.Tie as tie
 
 abbrev invariant-loop : tie.invariant-loop
-invariant-loop waiting₀ first rest i₀ waiting i = (rest ≡ mostPosts - first) × (length waiting ≡ postContents) × Moved waiting₀ first i waiting
+invariant-loop waiting₀ first rest i₀ waiting i = (rest ≡ most_posts - first) × (length waiting ≡ post_contents) × Moved waiting₀ first i waiting
 
 abbrev decreases-loop : tie.decreases-loop
-decreases-loop waiting₀ first rest i₀ waiting i = mostPosts - i
+decreases-loop waiting₀ first rest i₀ waiting i = most_posts - i
 
 loop-holds : tie.Need-loop-init invariant-loop decreases-loop
 loop-holds c = (refl, c.before.requires.1, moved-starts _ _ c.before.requires.0)
@@ -39,7 +39,7 @@ loop-again c =
 returns : tie.Need-returns invariant-loop decreases-loop
 returns c =
     let so_far = c.before.loop.invariant in
-    let all : c.before.loop.i ≡ mostPosts - c.before.before.before.args.first = omega (arith, so_far.0, so_far.2.within, c.loop-test.false) in
+    let all : c.before.loop.i ≡ most_posts - c.before.before.before.args.first = omega (arith, so_far.0, so_far.2.within, c.loop-test.false) in
     rw all at so_far.2.is
 
 pub move_up_spec : {M : Type 1} → statement M

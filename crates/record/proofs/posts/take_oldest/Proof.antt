@@ -1,12 +1,12 @@
 use native.Mathlib.Omega.{arith}
 use borrow.Author.Rules.{rules}
-use Rattle.record.specs.inner.Head.{postsOn}
+use Rattle.record.specs.inner.Head.{posts_on}
 use Rattle.record.proofs.Arrays.{PostsArrays}
 use Rattle.record.proofs.TakeLaws.{none-taken, contents-taken, posts-taken}
 use Rattle.record.proofs.posts.take_oldest.Statement.{statement}
 use Rattle.record.proofs.posts.take_oldest.Tie as tie
 
-sizes : (c : tie.Start) → PostsArrays (postsOn c.args.p c.args.waiting.now)
+sizes : (c : tie.Start) → PostsArrays (posts_on c.args.p c.args.waiting.now)
 sizes c = record { services = (let g = c.well-formed in search rules); lengths = (let g = c.well-formed in search rules); contents = c.requires.2 }
 
 copy-u16s-requires : tie.Need-copy-u16s-requires
@@ -22,7 +22,7 @@ returns-2 : tie.Need-returns-2
 returns-2 c =
     let start = c.before.before.before.before.before.before.before.before.before.before.before.before.before.before.before.before.before.before.before.before.before in
     let few = start.requires in
-    posts-taken (postsOn start.args.p start.args.waiting.now) start.args.n _ _ _ (sizes start) (omega (arith, few))
+    posts-taken (posts_on start.args.p start.args.waiting.now) start.args.n _ _ _ (sizes start) (omega (arith, few))
     c.before.before.before.before.before.before.before.before.before.before.before.before.before.before.copy-u16s.ensures c.before.before.before.before.before.before.before.before.before.before.get-bytes.ensures
     (contents-taken _ _ _ start.args.n few.2 (omega (arith, few)) c.before.before.before.before.before.before.before.move_up.ensures c.before.before.before.clear-from.ensures)
 

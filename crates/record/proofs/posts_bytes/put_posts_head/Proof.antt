@@ -2,15 +2,15 @@ use mathlib.Core.Path.{◌≡◌}
 use native.Mathlib.Omega.{arith}
 use lib.ListN.{length}
 use borrow.Author.Rules.{rules}
-use Rattle.record.specs.Size.{mostPosts}
+use Rattle.record.specs.Size.{most_posts}
 use Rattle.record.proofs.PutLaws.{posts-stored}
 use Rattle.record.proofs.posts_bytes.put_posts_head.Statement.{statement}
 use Rattle.record.proofs.posts_bytes.put_posts_head.Tie as tie
 
-services : (c : tie.Start) → length c.args.p.services ≡ mostPosts
+services : (c : tie.Start) → length c.args.p.services ≡ most_posts
 services c = (let g = c.well-formed in search rules)
 
-lengths : (c : tie.Start) → length c.args.p.lengths ≡ mostPosts
+lengths : (c : tie.Start) → length c.args.p.lengths ≡ most_posts
 lengths c = (let g = c.well-formed in search rules)
 
 put-u16s-requires : tie.Need-put-u16s-requires

@@ -1,10 +1,10 @@
 use borrow.Author.Rules.{rules}
-use Rattle.record.specs.Ring.{thisRing}
+use Rattle.record.specs.Ring.{this_ring}
 use Rattle.record.proofs.ring.this_ring.Statement.{statement}
 use Rattle.record.proofs.ring.this_ring.Tie as tie
 
 returns : tie.Need-returns
-unfolding thisRing
+unfolding this_ring
 returns c = cc
 
 pub this-ring-spec : {M : Type 1} → statement M

@@ -1,10 +1,10 @@
 use borrow.Author.Rules.{rules}
-use Rattle.record.specs.Ring.{tokenMembers}
+use Rattle.record.specs.Ring.{token_members}
 use Rattle.record.proofs.ring.token_members.Statement.{statement}
 use Rattle.record.proofs.ring.token_members.Tie as tie
 
 returns : tie.Need-returns
-unfolding tokenMembers
+unfolding token_members
 returns c = cc
 
 pub token-members-spec : {M : Type 1} → statement M

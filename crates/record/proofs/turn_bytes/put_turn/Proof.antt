@@ -3,7 +3,7 @@ use native.Mathlib.Omega.{arith}
 use lib.ListN.{length}
 use borrow.Author.Rules.{rules}
 use Rattle.record.proofs.PutLaws.{turn-stored}
-use Rattle.frames.specs.Layout.{longestToken}
+use Rattle.frames.specs.Layout.{longest_token}
 use Rattle.record.proofs.turn_bytes.put_turn.Statement.{statement}
 use Rattle.record.proofs.turn_bytes.put_turn.Tie as tie
 
@@ -13,7 +13,7 @@ slice-aggregate-put-bytes c =
 
 put-bytes-requires : tie.Need-put-bytes-requires
 put-bytes-requires c κs =
-    let long : length c.before.before.before.before.before.before.before.before.before.before.before.before.before.before.before.before.before.before.before.before.before.before.before.before.before.before.before.before.before.before.before.before.args.t.token ≡ longestToken =
+    let long : length c.before.before.before.before.before.before.before.before.before.before.before.before.before.before.before.before.before.before.before.before.before.before.before.before.before.before.before.before.before.before.before.before.args.t.token ≡ longest_token =
     (let g = c.before.before.before.before.before.before.before.before.before.before.before.before.before.before.before.before.before.before.before.before.before.before.before.before.before.before.before.before.before.before.before.before.well-formed in search rules) in
     omega (arith, c.before.before.before.before.before.before.before.before.before.before.before.before.before.before.before.before.before.before.before.before.before.before.before.before.before.before.before.before.before.before.before.before.requires)
 

@@ -5,10 +5,10 @@ use lib.ListN.{length, drop, length-drop}
 use lib.Seq.{length-take-le}
 use borrow.Author.Rules.{rules}
 use borrow.Author.Tests.{not-true, not-false}
-use Rattle.words.specs.Scan.{allZero}
-use Rattle.frames.specs.Layout.{mostContent}
+use Rattle.words.specs.Scan.{all_zero}
+use Rattle.frames.specs.Layout.{most_content}
 use Rattle.record.specs.Contents.{padding}
-use Rattle.record.specs.Whole.{contentsPadded}
+use Rattle.record.specs.Whole.{contents_padded}
 use Rattle.record.proofs.CountLaws.{Counting, count-starts, count-stops, count-goes, count-ends}
 use Rattle.record.proofs.PieceLaws.{limits as allowed}
 use Rattle.record.proofs.UnusedLaws.{padding-tested}
@@ -16,7 +16,7 @@ use Rattle.record.proofs.unused.contents_padded.Statement.{statement}
 use Rattle.record.proofs.unused.contents_padded.Tie as tie
 
 abbrev invariant-loop : tie.invariant-loop
-invariant-loop lengths contents limits i₀ i = (limits ≡ allowed) × Counting (λ place. allZero (padding lengths contents place)) 0 (length lengths) i
+invariant-loop lengths contents limits i₀ i = (limits ≡ allowed) × Counting (λ place. all_zero (padding lengths contents place)) 0 (length lengths) i
 
 abbrev decreases-loop : tie.decreases-loop
 decreases-loop lengths contents limits i₀ i = length lengths - i
@@ -27,13 +27,13 @@ loop-holds c = (c.before.put-bytes.ensures, count-starts _ _ _)
 content-padded-requires : tie.Need-content-padded-requires invariant-loop decreases-loop
 content-padded-requires c κs =
     let start = c.before.before.before.before.before.before.before.before.before.before.before in
-    let at = mostContent * c.before.before.before.before.loop.i in
-    let size : at + mostContent - at ≡ mostContent = omega arith in
+    let at = most_content * c.before.before.before.before.loop.i in
+    let size : at + most_content - at ≡ most_content = omega arith in
     let more = c.before.before.before.loop-test.true in
-    (length-take-le (at + mostContent - at) (drop at start.args.contents.now) (rw length-drop (omega (arith, start.requires, more))) ∙ size, c.before.before.before.before.loop.invariant.0)
+    (length-take-le (at + most_content - at) (drop at start.args.contents.now) (rw length-drop (omega (arith, start.requires, more))) ∙ size, c.before.before.before.before.loop.invariant.0)
 
 returns : tie.Need-returns invariant-loop decreases-loop
-unfolding contentsPadded
+unfolding contents_padded
 returns c =
     let given = c.before.before.before.before.before.before.before.before.before.before.before.before.before.args in
     let loop = c.before.before.before.before.before.before.loop in
@@ -50,7 +50,7 @@ loop-again c =
     )
 
 returns-2 : tie.Need-returns-2 invariant-loop decreases-loop
-unfolding contentsPadded
+unfolding contents_padded
 returns-2 c = count-ends _ _ _ _ c.before.loop.invariant.1 c.loop-test.false
 
 pub contents-padded-spec : {M : Type 1} → statement M

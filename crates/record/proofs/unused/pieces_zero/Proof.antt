@@ -3,12 +3,12 @@ use mathlib.Core.Path.{◌≡◌}
 use native.Mathlib.Nat.{zero-add}
 use borrow.Author.Rules.{rules}
 use Rattle.record.proofs.CountLaws.{Gathered, gathered-starts, gathered-goes, gathered-ends}
-use Rattle.record.proofs.PieceLaws.{zeroInFour, padded-by-pieces}
+use Rattle.record.proofs.PieceLaws.{zero_in_four, padded-by-pieces}
 use Rattle.record.proofs.unused.pieces_zero.Statement.{statement}
 use Rattle.record.proofs.unused.pieces_zero.Tie as tie
 
 abbrev invariant-loop : tie.invariant-loop
-invariant-loop s first second third good₀ i₀ good i = (second ≡ min (first + 16) 48) × (third ≡ min (first + 32) 48) × Gathered (zeroInFour s first second third) 0 16 good i
+invariant-loop s first second third good₀ i₀ good i = (second ≡ min (first + 16) 48) × (third ≡ min (first + 32) 48) × Gathered (zero_in_four s first second third) 0 16 good i
 
 abbrev decreases-loop : tie.decreases-loop
 decreases-loop s first second third good₀ i₀ good i = 16 - i

@@ -1,10 +1,10 @@
 use borrow.Author.Rules.{rules}
-use Rattle.record.specs.Whole.{turnUnusedZero}
+use Rattle.record.specs.Whole.{turn_unused_zero}
 use Rattle.record.proofs.unused.turn_unused_zero.Statement.{statement}
 use Rattle.record.proofs.unused.turn_unused_zero.Tie as tie
 
 returns : tie.Need-returns
-unfolding turnUnusedZero
+unfolding turn_unused_zero
 returns c = c.zero-from-u8.ensures
 
 pub turn-unused-zero-spec : {M : Type 1} → statement M

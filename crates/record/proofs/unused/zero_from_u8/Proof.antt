@@ -1,5 +1,5 @@
 use borrow.Author.Rules.{rules}
-use Rattle.words.proofs.ScanLaws.{to_end}
+use Rattle.words.proofs.ScanLaws.{to-end}
 use Rattle.record.proofs.UnusedLaws.{past_end}
 use Rattle.record.proofs.unused.zero_from_u8.Statement.{statement}
 use Rattle.record.proofs.unused.zero_from_u8.Tie as tie
@@ -11,7 +11,7 @@ returns-2 : tie.Need-returns-2
 returns-2 c = past_end _ _ c.if2.true
 
 returns-3 : tie.Need-returns-3
-returns-3 c = rw to_end at c.all-zero-u82.ensures
+returns-3 c = rw to-end at c.all-zero-u82.ensures
 
 pub zero-from-u8-spec : {M : Type 1} → statement M
 zero-from-u8-spec =

@@ -1,15 +1,15 @@
 use mathlib.Core.Path.{◌≡◌}
 use lib.ListN.{length}
 use borrow.Author.Rules.{rules}
-use Rattle.record.specs.Size.{heldContents, postContents}
+use Rattle.record.specs.Size.{held_contents, post_contents}
 use Rattle.record.proofs.WholeLaws.{shown-wrong, shown-right}
 use Rattle.record.proofs.whole.is_whole.Statement.{statement}
 use Rattle.record.proofs.whole.is_whole.Tie as tie
 
-contents : (c : tie.Start) → length c.args.r.log.held.contents ≡ heldContents
+contents : (c : tie.Start) → length c.args.r.log.held.contents ≡ held_contents
 contents c = (let g = c.well-formed.0.1.1.1.1.0.1.1.1.1.1.1.1.1.0 in search rules)
 
-waiting : (c : tie.Start) → length c.args.r.posts.contents ≡ postContents
+waiting : (c : tie.Start) → length c.args.r.posts.contents ≡ post_contents
 waiting c = (let g = c.well-formed.0.1.1.1.1.1.1.0 in search rules)
 
 returns : tie.Need-returns

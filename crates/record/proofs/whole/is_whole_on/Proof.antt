@@ -1,14 +1,14 @@
 use Prim.Native.Nat.{◌<◌}
 use native.Mathlib.Omega.{arith}
 use borrow.Author.Rules.{rules}
-use Rattle.record.specs.inner.Head.{recordOn}
+use Rattle.record.specs.inner.Head.{record_on}
 use Rattle.record.specs.declared.Record.{Record}
 use Rattle.record.proofs.WholeLaws.{whole-postless, whole-refused, members-few, whole-tested}
 use Rattle.record.proofs.whole.is_whole_on.Statement.{statement}
 use Rattle.record.proofs.whole.is_whole_on.Tie as tie
 
 abbrev the-record : tie.Start → Record
-the-record c = recordOn c.args.h c.args.contents.now c.args.waiting.now
+the-record c = record_on c.args.h c.args.contents.now c.args.waiting.now
 
 returns : tie.Need-returns
 returns c = whole-postless (the-record c.before.before.before.before) _ c.before.posts-whole.ensures c.if1.true

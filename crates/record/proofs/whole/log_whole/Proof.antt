@@ -2,7 +2,7 @@ use Prim.Native.Nat.{◌-◌}
 use native.Mathlib.Omega.{arith}
 use lib.Seq.{length-take-le}
 use borrow.Author.Rules.{rules}
-use Rattle.record.specs.inner.Head.{logOn}
+use Rattle.record.specs.inner.Head.{log_on}
 use Rattle.record.specs.declared.log.Log.{Log}
 use Rattle.record.proofs.RangeFacts.{LogRange}
 use Rattle.record.proofs.WholeLaws.{log-refused, log-ranged, log-whole-tested}
@@ -10,7 +10,7 @@ use Rattle.record.proofs.whole.log_whole.Statement.{statement}
 use Rattle.record.proofs.whole.log_whole.Tie as tie
 
 abbrev the-log : tie.Start → Log
-the-log c = logOn c.args.l c.args.contents.now
+the-log c = log_on c.args.l c.args.contents.now
 
 returns : tie.Need-returns
 returns c = log-refused c.before.before.before.args.own (the-log c.before.before.before) _ c.before.log-in-range.ensures c.if1.true

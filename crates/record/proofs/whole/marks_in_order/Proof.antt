@@ -1,10 +1,10 @@
 use mathlib.Core.Path.{refl}
-use Rattle.record.specs.Whole.{marksInOrder}
+use Rattle.record.specs.Whole.{marks_in_order}
 use Rattle.record.proofs.whole.marks_in_order.Statement.{statement}
 use Rattle.record.proofs.whole.marks_in_order.Tie as tie
 
 returns : tie.Need-returns
-unfolding marksInOrder
+unfolding marks_in_order
 returns c = refl
 
 pub marks-in-order-spec : {M : Type 1} → statement M

@@ -1,12 +1,12 @@
 use borrow.Author.Rules.{rules}
-use Rattle.record.specs.inner.Head.{postsOn}
+use Rattle.record.specs.inner.Head.{posts_on}
 use Rattle.record.specs.declared.posts.Posts.{Posts}
 use Rattle.record.proofs.WholeLaws.{posts-refused, posts-tested}
 use Rattle.record.proofs.whole.posts_whole.Statement.{statement}
 use Rattle.record.proofs.whole.posts_whole.Tie as tie
 
 abbrev the-posts : tie.Start → Posts
-the-posts c = postsOn c.args.p c.args.waiting.now
+the-posts c = posts_on c.args.p c.args.waiting.now
 
 returns : tie.Need-returns
 returns c = posts-refused (the-posts c.before.before.before) _ c.before.posts-in-range.ensures c.if1.true

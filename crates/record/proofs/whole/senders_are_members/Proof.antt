@@ -3,13 +3,13 @@ use mathlib.Core.Path.{◌≡◌, refl, ◌∙◌}
 use native.Mathlib.Omega.{arith}
 use lib.ListN.{length, get_or, drop}
 use borrow.Author.Rules.{rules}
-use Rattle.record.specs.Size.{mostHeld}
-use Rattle.record.proofs.StrikeLaws.{length-struck, struckAll, each_goes, each-ends, members-alone}
+use Rattle.record.specs.Size.{most_held}
+use Rattle.record.proofs.StrikeLaws.{length-struck, struck_all, each_goes, each-ends, members-alone}
 use Rattle.record.proofs.whole.senders_are_members.Statement.{statement}
 use Rattle.record.proofs.whole.senders_are_members.Tie as tie
 
 abbrev invariant-loop : tie.invariant-loop
-invariant-loop ids count left₀ i₀ left i = (count ≡ length ids) × (length left ≡ mostHeld) × (struckAll (drop i ids) left ≡ struckAll ids left₀)
+invariant-loop ids count left₀ i₀ left i = (count ≡ length ids) × (length left ≡ most_held) × (struck_all (drop i ids) left ≡ struck_all ids left₀)
 
 abbrev decreases-loop : tie.decreases-loop
 decreases-loop ids count left₀ i₀ left i = count - i

@@ -2,15 +2,15 @@ use mathlib.Core.Path.{◌≡◌}
 use native.Mathlib.Omega.{arith}
 use lib.ListN.{length}
 use borrow.Author.Rules.{rules}
-use Rattle.record.specs.Size.{mostMembers}
-use Rattle.record.specs.inner.Head.{logOn}
+use Rattle.record.specs.Size.{most_members}
+use Rattle.record.specs.inner.Head.{log_on}
 use Rattle.record.specs.declared.log.Log.{Log}
 use Rattle.record.proofs.WholeLaws.{turn-refused, turn-ranged, turn-whole-tested}
 use Rattle.record.proofs.whole.turn_whole.Statement.{statement}
 use Rattle.record.proofs.whole.turn_whole.Tie as tie
 
 abbrev the-log : tie.Start → Log
-the-log c = logOn c.args.l c.args.contents.now
+the-log c = log_on c.args.l c.args.contents.now
 
 returns : tie.Need-returns
 returns c = turn-refused (the-log c.before.before.before) _ _ c.before.turn-in-range.ensures c.if1.true
@@ -18,7 +18,7 @@ returns c = turn-refused (the-log c.before.before.before) _ _ c.before.turn-in-r
 part-resend-passes-end : tie.Need-slice-bounds-resend-passes-end
 part-resend-passes-end c =
     let start = c.before.before.before.before.before.before in
-    let long : length start.args.l.members ≡ mostMembers = (let g = start.well-formed.0.1 in search rules) in
+    let long : length start.args.l.members ≡ most_members = (let g = start.well-formed.0.1 in search rules) in
     omega (arith, long, start.requires)
 
 resend-passes-requires : tie.Need-resend-passes-requires

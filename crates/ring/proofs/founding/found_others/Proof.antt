@@ -4,17 +4,17 @@ use mathlib.Core.List.{List}
 use native.Mathlib.Omega.{arith}
 use lib.ListN.{length}
 use borrow.Author.Rules.{rules}
-use Rattle.frames.specs.Layout.{shortestToken}
-use Rattle.record.specs.Layout.{recordSize}
-use Rattle.ring.specs.Stations.{foundedUpTo}
+use Rattle.frames.specs.Layout.{shortest_token}
+use Rattle.record.specs.Layout.{record_size}
+use Rattle.ring.specs.Stations.{founded_up_to}
 use Rattle.ring.proofs.places.FoundingLaws.{founding-goes}
 use Rattle.ring.proofs.founding.found_others.Statement.{statement}
 use Rattle.ring.proofs.founding.found_others.Tie as tie
 
 abbrev invariant-loop : tie.invariant-loop
-invariant-loop records₀ list ring n token₀ i₀ records token i = (1 ≤ i) × (1 ≤ n → i ≤ n) × (length records ≡ length records₀) × (length token ≡ shortestToken) × ((before : List ℕ) → 1 ≤ n → recordSize * n ≤ length before
-    → records₀ ≡ foundedUpTo list ring.0 before 1
-    → records ≡ foundedUpTo list ring.0 before i)
+invariant-loop records₀ list ring n token₀ i₀ records token i = (1 ≤ i) × (1 ≤ n → i ≤ n) × (length records ≡ length records₀) × (length token ≡ shortest_token) × ((before : List ℕ) → 1 ≤ n → record_size * n ≤ length before
+    → records₀ ≡ founded_up_to list ring.0 before 1
+    → records ≡ founded_up_to list ring.0 before i)
 
 abbrev decreases-loop : tie.decreases-loop
 decreases-loop records₀ list ring n token₀ i₀ records token i = n - i

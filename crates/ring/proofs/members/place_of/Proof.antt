@@ -4,13 +4,13 @@ use native.Mathlib.Omega.{arith}
 use lib.ListN.{length, drop}
 use borrow.Author.Rules.{rules}
 use Rattle.station.specs.Over.{ids_in}
-use Rattle.ring.specs.Stations.{placeFrom}
+use Rattle.ring.specs.Stations.{place_from}
 use Rattle.ring.proofs.places.MemberLaws.{looking-stops, looking-goes, looking-ends}
 use Rattle.ring.proofs.members.place_of.Statement.{statement}
 use Rattle.ring.proofs.members.place_of.Tie as tie
 
 abbrev invariant-loop : tie.invariant-loop
-invariant-loop members id n i₀ i = (n ≡ length (ids_in members)) × (i ≤ n) × (placeFrom i (drop i (ids_in members)) id ≡ placeFrom 0 (ids_in members) id)
+invariant-loop members id n i₀ i = (n ≡ length (ids_in members)) × (i ≤ n) × (place_from i (drop i (ids_in members)) id ≡ place_from 0 (ids_in members) id)
 
 abbrev decreases-loop : tie.decreases-loop
 decreases-loop members id n i₀ i = n - i

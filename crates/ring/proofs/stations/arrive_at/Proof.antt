@@ -3,10 +3,10 @@ use Prim.Native.Nat.{ℕ}
 use mathlib.Core.List.{List}
 use lib.ListN.{length}
 use borrow.Author.Rules.{rules}
-use Rattle.station.specs.Answer.{outcomeOf}
+use Rattle.station.specs.Answer.{outcome_of}
 use Rattle.station.specs.Reply.{Reply}
-use Rattle.visit.specs.Output.{followedBy}
-use Rattle.station.specs.Over.{arriveOver}
+use Rattle.visit.specs.Output.{followed_by}
+use Rattle.station.specs.Over.{arrive_over}
 use Rattle.ring.proofs.places.PlaceLaws.{said_at, left_at}
 use Rattle.ring.proofs.stations.arrive_at.Statement.{statement}
 use Rattle.ring.proofs.stations.arrive_at.Tie as tie
@@ -18,11 +18,11 @@ returns c =
     let end = c.before.before.before.before.before.before.before.before.before.before.end_of_lem in
     let done = c.before.before.before.before.before.before.totem-arrive in
     let at : (P : List ℕ → Type 0) → P _ → P _ = said_at args.place args.records.now start.result end.result start.ensures end.ensures in
-    let reply : List ℕ → Reply = λ s. arriveOver s args.frame.now (length args.frames.now) (length args.deliveries.now) in (
-      at (λ s. done.result ≡ outcomeOf (reply s).answer) done.ensures.answers,
+    let reply : List ℕ → Reply = λ s. arrive_over s args.frame.now (length args.frames.now) (length args.deliveries.now) in (
+      at (λ s. done.result ≡ outcome_of (reply s).answer) done.ensures.answers,
       left_at args.place args.records.now start.result end.result start.ensures end.ensures reply _ done.ensures.station,
-      at (λ s. done.new.1.1.0 ≡ followedBy (reply s).frames args.frames.now) done.ensures.frames,
-      at (λ s. done.new.1.1.1.0 ≡ followedBy (reply s).deliveries args.deliveries.now) done.ensures.deliveries,
+      at (λ s. done.new.1.1.0 ≡ followed_by (reply s).frames args.frames.now) done.ensures.frames,
+      at (λ s. done.new.1.1.1.0 ≡ followed_by (reply s).deliveries args.deliveries.now) done.ensures.deliveries,
     )
 
 pub arrive-at-spec : {M : Type 1} → statement M

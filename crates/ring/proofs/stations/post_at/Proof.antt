@@ -1,7 +1,7 @@
 use mathlib.Core.Path.{◌≡◌}
 use borrow.Author.Rules.{rules}
-use Rattle.station.specs.Answer.{outcomeOf}
-use Rattle.station.specs.Over.{postOver}
+use Rattle.station.specs.Answer.{outcome_of}
+use Rattle.station.specs.Over.{post_over}
 use Rattle.ring.proofs.places.PlaceLaws.{said_at, left_at}
 use Rattle.ring.proofs.stations.post_at.Statement.{statement}
 use Rattle.ring.proofs.stations.post_at.Tie as tie
@@ -13,10 +13,10 @@ returns c =
     let end = c.before.before.before.before.end_of_lem in
     let done = c.before.before.totem-post in (
       said_at args.place args.records.now start.result end.result start.ensures end.ensures
-          (λ s. done.result ≡ outcomeOf (postOver s args.service args.content.now).answer)
+          (λ s. done.result ≡ outcome_of (post_over s args.service args.content.now).answer)
           done.ensures.answers,
       left_at args.place args.records.now start.result end.result start.ensures end.ensures
-          (λ s. postOver s args.service args.content.now) _
+          (λ s. post_over s args.service args.content.now) _
           done.ensures.station,
     )
 

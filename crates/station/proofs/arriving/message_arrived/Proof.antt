@@ -3,8 +3,8 @@ use mathlib.Core.Bool.{true}
 use native.Mathlib.Omega.{arith}
 use borrow.Author.Rules.{rules}
 use borrow.Author.Tests.{not-true, not-false}
-use Rattle.record.specs.inner.Head.{recordIn}
-use Rattle.record.specs.Ring.{ids, thisRing}
+use Rattle.record.specs.inner.Head.{record_in}
+use Rattle.record.specs.Ring.{ids, this_ring}
 use Rattle.record.specs.declared.Record.{Record}
 use Rattle.station.proofs.ArriveLaws.{heard-does, count_fits, ring-asked, sender-asked, message-other-ring, message-not-member, message-passes}
 use Rattle.station.proofs.DoesLaws.{refuses, known}
@@ -12,10 +12,10 @@ use Rattle.station.proofs.arriving.message_arrived.Statement.{statement}
 use Rattle.station.proofs.arriving.message_arrived.Tie as tie
 
 abbrev the-record : tie.Start → Record
-the-record c = recordIn c.args.h c.args.s.now
+the-record c = record_in c.args.h c.args.s.now
 
 part-ids-end : tie.Need-slice-bounds-ids-end
-part-ids-end c = let start = c.before.before.before.before.before.before in omega (arith, count_fits (the-record start) start.requires.0.whole-record)
+part-ids-end c = let start = c.before.before.before.before.before.before in omega (arith, count_fits (the-record start) start.requires.0.whole_record)
 
 returns : tie.Need-returns
 returns c =
@@ -27,7 +27,7 @@ returns c =
 abbrev start : tie.Else1 → tie.Start
 start c = c.before.before.before.before.before.before.before.before.before
 
-this : (c : tie.Else1) → thisRing (the-record (start c)).log.ring.0 (ids (the-record (start c)).log) (start c).args.m.header ≡ true
+this : (c : tie.Else1) → this_ring (the-record (start c)).log.ring.0 (ids (the-record (start c)).log) (start c).args.m.header ≡ true
 this c = ring-asked (the-record (start c)) _ _ (start c).args.m.header c.before.this-ring.ensures (not-false _ c.if1.false)
 
 returns-2 : tie.Need-returns-2
@@ -40,7 +40,7 @@ hear-requires : tie.Need-hear-requires
 hear-requires c κs =
     let begun = start c.before.before.before.before in (
       record {
-        whole-record = begun.pre.0.whole-record;
+        whole_record = begun.pre.0.whole_record;
         follows = begun.pre.1;
         this-ring = this c.before.before.before.before;
         member = sender-asked (the-record begun) _ _ begun.args.m.sender c.before.before.before.is_member.ensures (not-false _ c.before.before.if2.false);

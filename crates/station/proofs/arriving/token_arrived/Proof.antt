@@ -3,21 +3,21 @@ use mathlib.Core.Bool.{true}
 use native.Mathlib.Omega.{arith}
 use borrow.Author.Rules.{rules}
 use borrow.Author.Tests.{not-true, not-false}
-use Rattle.record.specs.inner.Head.{recordIn, contentsIn}
+use Rattle.record.specs.inner.Head.{record_in, contents_in}
 use Rattle.record.specs.Layout.{log_at}
-use Rattle.record.specs.Ring.{ids, thisRing, tokenMembers}
+use Rattle.record.specs.Ring.{ids, this_ring, token_members}
 use Rattle.record.specs.declared.Record.{Record}
-use Rattle.visit.specs.Acceptable.{coversHeld}
+use Rattle.visit.specs.Acceptable.{covers_held}
 use Rattle.station.proofs.ArriveLaws.{accepted-does, count_fits, ring-asked, members-asked, token-other-ring, token-not-member, token-elsewhere, token-old, token-last, token-below, token-passes}
 use Rattle.station.proofs.DoesLaws.{refuses, known}
 use Rattle.station.proofs.arriving.token_arrived.Statement.{statement}
 use Rattle.station.proofs.arriving.token_arrived.Tie as tie
 
 abbrev the-record : tie.Start → Record
-the-record c = recordIn c.args.h c.args.s.now
+the-record c = record_in c.args.h c.args.s.now
 
 part-ids-end : tie.Need-slice-bounds-ids-end
-part-ids-end c = let start = c.before.before.before.before.before.before in omega (arith, count_fits (the-record start) start.requires.0.whole-record)
+part-ids-end c = let start = c.before.before.before.before.before.before in omega (arith, count_fits (the-record start) start.requires.0.whole_record)
 
 returns : tie.Need-returns
 returns c =
@@ -29,7 +29,7 @@ returns c =
 abbrev start : tie.Else1 → tie.Start
 start c = c.before.before.before.before.before.before.before.before.before
 
-this : (c : tie.Else1) → thisRing (the-record (start c)).log.ring.0 (ids (the-record (start c)).log) (start c).args.t.header ≡ true
+this : (c : tie.Else1) → this_ring (the-record (start c)).log.ring.0 (ids (the-record (start c)).log) (start c).args.t.header ≡ true
 this c = ring-asked (the-record (start c)) _ _ (start c).args.t.header c.before.this-ring.ensures (not-false _ c.if1.false)
 
 returns-2 : tie.Need-returns-2
@@ -39,7 +39,7 @@ returns-2 c =
     (token-not-member (the-record begun) begun.args.t (this c.before.before) (members-asked (the-record begun) _ _ begun.args.t c.before.token-members.ensures (not-true _ c.if2.true)))
 
 -- past 14
-members : (c : tie.Else2) → tokenMembers (ids (the-record (start c.before.before)).log) (start c.before.before).args.t ≡ true
+members : (c : tie.Else2) → token_members (ids (the-record (start c.before.before)).log) (start c.before.before).args.t ≡ true
 members c = let begun = start c.before.before in members-asked (the-record begun) _ _ begun.args.t c.before.token-members.ensures (not-false _ c.if2.false)
 
 returns-3 : tie.Need-returns-3
@@ -65,20 +65,20 @@ returns-6 c =
     let begun = start c.before.before.before.before.before.before.before.before.before.before.before.before in
     refuses _ (the-record begun) _ begun.args.s.now _ _
     (token-below (the-record begun) begun.args.t (this c.before.before.before.before.before.before.before.before.before.before.before.before) (members c.before.before.before.before.before.before.before.before.before.before) c.before.before.before.before.before.before.before.if3.false c.before.before.before.before.if4.false c.before.before.if5.false
-    (sym (c.before.covers-held.ensures (contentsIn begun.args.s.now log_at)) ∙ not-true _ c.if6.true))
+    (sym (c.before.covers-held.ensures (contents_in begun.args.s.now log_at)) ∙ not-true _ c.if6.true))
 
 -- past 18
 abbrev visited : tie.Else6 → tie.Start
 visited c = start c.before.before.before.before.before.before.before.before.before.before.before.before
 
-covers : (c : tie.Else6) → coversHeld (the-record (visited c)).log (visited c).args.t.highest.0 ≡ true
-covers c = sym (c.before.covers-held.ensures (contentsIn (visited c).args.s.now log_at)) ∙ not-false _ c.if6.false
+covers : (c : tie.Else6) → covers_held (the-record (visited c)).log (visited c).args.t.highest.0 ≡ true
+covers c = sym (c.before.covers-held.ensures (contents_in (visited c).args.s.now log_at)) ∙ not-false _ c.if6.false
 
 accept-requires : tie.Need-accept-requires
 accept-requires c κs =
     let begun = visited c.before.before.before in (
       record {
-        whole-record = begun.pre.0.whole-record;
+        whole_record = begun.pre.0.whole_record;
         follows = begun.pre.1;
         this-ring = this c.before.before.before.before.before.before.before.before.before.before.before.before.before.before.before;
         members = members c.before.before.before.before.before.before.before.before.before.before.before.before.before;

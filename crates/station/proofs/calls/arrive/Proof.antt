@@ -42,7 +42,7 @@ use denote.Triple.Table.{entered, cited}
 use denote.Triple.Walked.{says, Stays, stay_ref, stay_none_slice, gave_slice, walk_of, AllGo, Goes-ref, Goes-none_slice, Goes-gave_slice, Walks, ends_at, walked, walk_Meets}
 use denote.Exit.{yes}
 use Rattle.station.specs.Reply.{done_of}
-use Rattle.visit.specs.Output.{followedBy}
+use Rattle.visit.specs.Output.{followed_by}
 use Rattle.station.specs.Arrive.{arrived}
 use Rattle.record.specs.declared.Record.{Record}
 use Rattle.station.specs.declared.done.Done.{Done}
@@ -122,7 +122,7 @@ module _ {M : Type 1} {𝓤 : Ura M} (𝓛 : Logic 𝓤) (at_mem : Memory → SP
   Lasts = Unit {0} × (Unit {0} × (List ℕ × (List ℕ × Unit {0})))
 
   abbrev Said : Done → List ℕ → List ℕ → Type 0
-  Said r z₂ z₃ = (r ≡ out) × (z₂ ≡ followedBy (arrived h x₁.now (length x₂.now) (length x₃.now)).frames x₂.now) × (z₃ ≡ followedBy (arrived h x₁.now (length x₂.now) (length x₃.now)).deliveries x₃.now)
+  Said r z₂ z₃ = (r ≡ out) × (z₂ ≡ followed_by (arrived h x₁.now (length x₂.now) (length x₃.now)).frames x₂.now) × (z₃ ≡ followed_by (arrived h x₁.now (length x₂.now) (length x₃.now)).deliveries x₃.now)
 
   exits : (r : Done) (d : Record) (t : Answer) (u : Val) (z₂ z₃ : List ℕ) → Said r z₂ z₃ → d ≡ r.rec → t ≡ r.answer → length z₂ ≡ length x₂.now → length z₃ ≡ length x₃.now
       → ent 𝓤 (⋆ 𝓛 (‵ (fobs γ (R.coded.code d)) ∷ ‵ (fbor κ (Body (mem R) b o γ)) ∷ ‵ (flft κ q) ∷ ‵ ((N.the_row).own_val t (u ∷ [])) ∷ Toks ∷ ‵ (finally u8 x₂.name z₂) ∷ ‵ (finally u8 x₃.name z₃) ∷ ‵ Own₁ ∷ [])) (Post u)

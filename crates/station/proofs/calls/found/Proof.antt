@@ -43,8 +43,8 @@ use denote.Triple.Table.{entered, cited}
 use denote.Triple.Walked.{says, Stays, stay_ref, stay_none, stay_none_slice, gave_slice, walk_of, AllGo, Goes-ref, Goes-none, Goes-none_slice, Goes-gave_slice, Walks, ends_at, walked, walk_Meets}
 use denote.Exit.{yes}
 use Rattle.station.specs.Reply.{done_of}
-use Rattle.visit.specs.Output.{followedBy}
-use Rattle.station.specs.Found.{foundedOn}
+use Rattle.visit.specs.Output.{followed_by}
+use Rattle.station.specs.Found.{founded_on}
 use Rattle.record.specs.declared.Record.{Record}
 use Rattle.station.specs.declared.done.Done.{Done}
 use Rattle.station.specs.declared.answer.Answer.{Answer}
@@ -108,7 +108,7 @@ module _ {M : Type 1} {𝓤 : Ura M} (𝓛 : Logic 𝓤) (at_mem : Memory → SP
   at = (vptr b o ∷ [], (v x₁ ∷ [], (vint w16 x₂ ∷ [], (low-Q x₃ ∷ [], (v x₄ ∷ [], tt)))))
 
   abbrev out : Done
-  out = done_of (foundedOn h (length x₄.now) x₁.now x₂ x₃.0)
+  out = done_of (founded_on h (length x₄.now) x₁.now x₂ x₃.0)
 
   abbrev Post : Val → SProp 𝓤
   Post = (walk_of 𝓛 f.ended stayed (f.clauses 𝓛 at_mem run)).post (((κ, (κ₁, (κ₂, tt))), (q, (q₁, (q₂, tt))), bounds, x, at), tt)
@@ -134,7 +134,7 @@ module _ {M : Type 1} {𝓤 : Ura M} (𝓛 : Logic 𝓤) (at_mem : Memory → SP
   Lasts = Unit {0} × (Unit {0} × (Unit {0} × (Unit {0} × (List ℕ × Unit {0}))))
 
   abbrev Said : Done → List ℕ → Type 0
-  Said r z₄ = (r ≡ out) × (z₄ ≡ followedBy (foundedOn h (length x₄.now) x₁.now x₂ x₃.0).frames x₄.now)
+  Said r z₄ = (r ≡ out) × (z₄ ≡ followed_by (founded_on h (length x₄.now) x₁.now x₂ x₃.0).frames x₄.now)
 
   exits : (r : Done) (d : Record) (t : Answer) (u : Val) (z₄ : List ℕ) → Said r z₄ → d ≡ r.rec → t ≡ r.answer → length z₄ ≡ length x₄.now
       → ent 𝓤 (⋆ 𝓛 (‵ (fobs γ (R.coded.code d)) ∷ ‵ (fbor κ (Body (mem R) b o γ)) ∷ ‵ (flft κ q) ∷ ‵ ((N.the_row).own_val t (u ∷ [])) ∷ Toks ∷ ‵ (finally u8 x₄.name z₄) ∷ ‵ Own₁ ∷ [])) (Post u)

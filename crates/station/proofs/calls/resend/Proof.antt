@@ -41,7 +41,7 @@ use denote.Triple.Clauses.{ensured, lasts}
 use denote.Triple.Table.{entered, cited}
 use denote.Triple.Walked.{says, Stays, stay_ref, gave_slice, walk_of, AllGo, Goes-ref, Goes-gave_slice, Walks, ends_at, walked, walk_Meets}
 use Rattle.station.specs.Reply.{done_of}
-use Rattle.visit.specs.Output.{followedBy}
+use Rattle.visit.specs.Output.{followed_by}
 use Rattle.station.specs.Resend.{resent}
 use Rattle.record.specs.declared.Record.{Record}
 use Rattle.station.specs.declared.done.Done.{Done}
@@ -118,7 +118,7 @@ module _ {M : Type 1} {𝓤 : Ura M} (𝓛 : Logic 𝓤) (at_mem : Memory → SP
   Lasts = Unit {0} × (List ℕ × Unit {0})
 
   abbrev Said : Done → List ℕ → Type 0
-  Said r z₁ = (r ≡ out) × (z₁ ≡ followedBy (resent h (length x₁.now)).frames x₁.now)
+  Said r z₁ = (r ≡ out) × (z₁ ≡ followed_by (resent h (length x₁.now)).frames x₁.now)
 
   exits : (r : Done) (d : Record) (t : Answer) (u : Val) (z₁ : List ℕ) → Said r z₁ → d ≡ r.rec → t ≡ r.answer → length z₁ ≡ length x₁.now
       → ent 𝓤 (⋆ 𝓛 (‵ (fobs γ (R.coded.code d)) ∷ ‵ (fbor κ (Body (mem R) b o γ)) ∷ ‵ (flft κ q) ∷ ‵ ((N.the_row).own_val t (u ∷ [])) ∷ Toks ∷ ‵ (finally u8 x₁.name z₁) ∷ [])) (Post u)

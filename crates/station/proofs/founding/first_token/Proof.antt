@@ -1,10 +1,10 @@
 use borrow.Author.Rules.{rules}
-use Rattle.station.specs.Found.{firstToken}
+use Rattle.station.specs.Found.{first_token}
 use Rattle.station.proofs.founding.first_token.Statement.{statement}
 use Rattle.station.proofs.founding.first_token.Tie as tie
 
 returns : tie.Need-returns
-unfolding firstToken
+unfolding first_token
 returns c = cc
 
 pub first-token-spec : {M : Type 1} → statement M

@@ -5,19 +5,19 @@ use native.Mathlib.Omega.{arith}
 use lib.ListN.{length, take}
 use lib.Seq.{length-take-le}
 use borrow.Author.Rules.{rules}
-use Rattle.frames.specs.Layout.{mostRequests}
-use Rattle.visit.specs.inner.Steps.{listIn}
+use Rattle.frames.specs.Layout.{most_requests}
+use Rattle.visit.specs.inner.Steps.{list_in}
 use Rattle.visit.proofs.broadcasting.put_repeats.Statement.{statement}
 use Rattle.visit.proofs.broadcasting.put_repeats.Tie as tie
 
 -- the part that is lent is the list of repeats
-lent : (c : tie.Start) → take (c.args.repeats.count - 0) c.args.repeats.numbers ≡ listIn c.args.repeats
+lent : (c : tie.Start) → take (c.args.repeats.count - 0) c.args.repeats.numbers ≡ list_in c.args.repeats
 lent c = rw sub-zero
 
-long : (c : tie.Start) → length c.args.repeats.numbers ≡ mostRequests
+long : (c : tie.Start) → length c.args.repeats.numbers ≡ most_requests
 long c = let repeats = c.well-formed.1.1.0 in search rules
 
-few : (c : tie.Start) → length (listIn c.args.repeats) ≡ c.args.repeats.count
+few : (c : tie.Start) → length (list_in c.args.repeats) ≡ c.args.repeats.count
 few c = length-take-le c.args.repeats.count c.args.repeats.numbers (omega (arith, long c, c.requires.2))
 
 part-put-each-end : tie.Need-slice-bounds-put-each-end

@@ -3,13 +3,13 @@ use mathlib.Core.Path.{sym, ◌∙◌}
 use mathlib.Core.List.{List, []}
 use borrow.Author.Tests.{not-true, not-false}
 use borrow.Author.Rules.{rules}
-use Rattle.record.specs.inner.Head.{logOn}
+use Rattle.record.specs.inner.Head.{log_on}
 use Rattle.visit.proofs.DueCount.{Counted, count-starts, count-stops, count-goes, count-ends}
 use Rattle.visit.proofs.delivering.due_count.Statement.{statement}
 use Rattle.visit.proofs.delivering.due_count.Tie as tie
 
 abbrev invariant-loop : tie.invariant-loop
-invariant-loop l safe services level last₀ last = (contents : List ℕ) → Counted (logOn l contents) safe.0 last
+invariant-loop l safe services level last₀ last = (contents : List ℕ) → Counted (log_on l contents) safe.0 last
 
 abbrev decreases-loop : tie.decreases-loop
 decreases-loop l safe services level last₀ last = level - last

@@ -2,14 +2,14 @@ use mathlib.Core.Path.{◌∙◌}
 use native.Mathlib.Nat.{zero-add}
 use native.Mathlib.Omega.{arith}
 use borrow.Author.Rules.{rules}
-use Rattle.record.specs.inner.Head.{logOn}
+use Rattle.record.specs.inner.Head.{log_on}
 use Rattle.record.specs.declared.log.Log.{Log}
 use Rattle.visit.proofs.DueCount.{due-fits, run-handed}
 use Rattle.visit.proofs.delivering.hand_out.Statement.{statement}
 use Rattle.visit.proofs.delivering.hand_out.Tie as tie
 
 abbrev the-log : tie.Start → Log
-the-log c = logOn c.args.l c.args.contents.now
+the-log c = log_on c.args.l c.args.contents.now
 
 put-run-requires : tie.Need-put-run-requires
 put-run-requires c κs =

@@ -1,13 +1,13 @@
 use native.Mathlib.Omega.{arith}
 use borrow.Author.Rules.{rules}
-use Rattle.record.specs.inner.Head.{logOn}
+use Rattle.record.specs.inner.Head.{log_on}
 use Rattle.record.specs.declared.log.Log.{Log}
 use Rattle.visit.proofs.DueCount.{due-fits, run-handed}
 use Rattle.visit.proofs.delivering.hand_out_kept.Statement.{statement}
 use Rattle.visit.proofs.delivering.hand_out_kept.Tie as tie
 
 abbrev the-log : tie.Start → Log
-the-log c = logOn c.args.l c.args.contents.now
+the-log c = log_on c.args.l c.args.contents.now
 
 put-due-requires : tie.Need-put-due-requires
 put-due-requires c κs =

@@ -3,7 +3,7 @@ use native.Mathlib.Omega.{arith}
 use lib.ListN.{length}
 use lib.Seq.{length-sets}
 use borrow.Author.Rules.{rules}
-use Rattle.record.specs.inner.Head.{logOn}
+use Rattle.record.specs.inner.Head.{log_on}
 use Rattle.record.specs.declared.log.Log.{Log}
 use Rattle.visit.proofs.KeptLaws.{kept-short, kept_put}
 use Rattle.visit.proofs.PutFrames.{none-put}
@@ -11,7 +11,7 @@ use Rattle.visit.proofs.delivering.put_due.Statement.{statement}
 use Rattle.visit.proofs.delivering.put_due.Tie as tie
 
 abbrev the-log : tie.Start → Log
-the-log c = logOn c.args.l c.args.contents.now
+the-log c = log_on c.args.l c.args.contents.now
 
 returns : tie.Need-returns
 returns c =

@@ -1,10 +1,10 @@
 use borrow.Author.Rules.{rules}
-use Rattle.visit.specs.Visit.{newCount, allowance, roundAllowance, others, othersBacklog}
+use Rattle.visit.specs.Visit.{new_count, allowance, round_allowance, others, others_backlog}
 use Rattle.visit.proofs.flow.new_count.Statement.{statement}
 use Rattle.visit.proofs.flow.new_count.Tie as tie
 
 returns : tie.Need-returns
-unfolding newCount allowance roundAllowance others othersBacklog
+unfolding new_count allowance round_allowance others others_backlog
 returns c = rw (
   c.smaller3.ensures,
   c.before.smaller2.ensures,

@@ -2,10 +2,10 @@ use Prim.Native.Nat.{◌+◌}
 use mathlib.Core.Path.{◌≡◌, refl, ap}
 use native.Mathlib.Omega.{arith}
 use borrow.Author.Rules.{rules}
-use Rattle.record.specs.inner.Head.{recordIn}
+use Rattle.record.specs.inner.Head.{record_in}
 use Rattle.visit.specs.Visit.{Visit}
 use Rattle.visit.specs.Acceptable.{visit}
-use Rattle.visit.specs.inner.Steps.{reachOf, reachAfter}
+use Rattle.visit.specs.inner.Steps.{reach_of, reach_after}
 use Rattle.visit.specs.declared.broadcasting.Sent.{Sent}
 use Rattle.visit.specs.declared.marks.Reach.{Reach}
 use Rattle.visit.proofs.Forward.{highest-fits, added-waited, left-waiting, reached, stalled, marked, forwarded}
@@ -13,11 +13,11 @@ use Rattle.visit.proofs.forwarding.forward.Statement.{statement}
 use Rattle.visit.proofs.forwarding.forward.Tie as tie
 
 abbrev the-visit : tie.Start → Visit
-the-visit c = visit (recordIn c.args.h c.args.s.now) c.args.t
+the-visit c = visit (record_in c.args.h c.args.s.now) c.args.t
 
 reaches : (c : tie.Start) (r : Reach)
-    → r ≡ reachAfter c.args.h.own c.args.b.log.level (record { 0 = c.args.t.highest.0 + c.args.b.added }) c.args.t.aru c.args.t.blocker
-    → r ≡ reachOf (the-visit c)
+    → r ≡ reach_after c.args.h.own c.args.b.log.level (record { 0 = c.args.t.highest.0 + c.args.b.added }) c.args.t.aru c.args.t.blocker
+    → r ≡ reach_of (the-visit c)
 reaches c r e = reached (the-visit c) c.requires.0 c.args.b c.requires.1 r _ refl e
 
 add-waits : tie.Need-overflow-add-waits

@@ -1,6 +1,6 @@
 use native.Mathlib.Omega.{arith}
 use borrow.Author.Rules.{rules}
-use Rattle.record.specs.inner.Head.{recordIn}
+use Rattle.record.specs.inner.Head.{record_in}
 use Rattle.visit.specs.Visit.{Visit}
 use Rattle.visit.specs.Acceptable.{visit}
 use Rattle.visit.proofs.Forward.{highest-fits, window-fits, missing-ready, requested}
@@ -8,7 +8,7 @@ use Rattle.visit.proofs.forwarding.requests_after.Statement.{statement}
 use Rattle.visit.proofs.forwarding.requests_after.Tie as tie
 
 abbrev the-visit : tie.Start → Visit
-the-visit c = visit (recordIn c.args.h c.args.s.now) c.args.t
+the-visit c = visit (record_in c.args.h c.args.s.now) c.args.t
 
 add-highest : tie.Need-overflow-add-highest
 add-highest c =

@@ -1,6 +1,6 @@
 use native.Mathlib.Omega.{arith}
 use borrow.Author.Rules.{rules}
-use Rattle.record.specs.inner.Head.{recordIn, contentsIn}
+use Rattle.record.specs.inner.Head.{record_in, contents_in}
 use Rattle.record.specs.Layout.{log_at}
 use Rattle.visit.specs.Visit.{Visit}
 use Rattle.visit.specs.Acceptable.{visit}
@@ -9,7 +9,7 @@ use Rattle.visit.proofs.forwarding.token_after.Statement.{statement}
 use Rattle.visit.proofs.forwarding.token_after.Tie as tie
 
 abbrev the-visit : tie.Start → Visit
-the-visit c = visit (recordIn c.args.h c.args.s.now) c.args.t
+the-visit c = visit (record_in c.args.h c.args.s.now) c.args.t
 
 cast-n : tie.Need-overflow-cast-n
 cast-n c =
@@ -45,7 +45,7 @@ returns : tie.Need-returns
 returns c =
     let start = c.before.before.before.before.before.before.before.before.before.before.before.before.before.before.before.before.before in
     token-made (the-visit start) start.requires.0 _ start.requires.1 _ _ _ _ _ _ _ _ _ _
-    (c.before.before.before.before.before.before.before.before.before.before.ring-header.ensures (contentsIn start.args.s.now log_at))
+    (c.before.before.before.before.before.before.before.before.before.before.ring-header.ensures (contents_in start.args.s.now log_at))
     c.before.before.before.before.before.before.before.next-member.ensures
     c.before.before.before.others-part.ensures
     c.before.before.sum-after.ensures

@@ -1,6 +1,6 @@
 use native.Mathlib.Omega.{arith}
 use borrow.Author.Rules.{rules}
-use Rattle.record.specs.inner.Head.{recordIn}
+use Rattle.record.specs.inner.Head.{record_in}
 use Rattle.visit.specs.Visit.{Visit}
 use Rattle.visit.specs.Acceptable.{visit}
 use Rattle.visit.proofs.VisitFacts.{few-left}
@@ -9,7 +9,7 @@ use Rattle.visit.proofs.forwarding.turn_after.Statement.{statement}
 use Rattle.visit.proofs.forwarding.turn_after.Tie as tie
 
 abbrev the-visit : tie.Start → Visit
-the-visit c = visit (recordIn c.args.h c.args.s.now) c.args.t
+the-visit c = visit (record_in c.args.h c.args.s.now) c.args.t
 
 cast-t15 : tie.Need-overflow-cast-t15
 cast-t15 c =

@@ -1,7 +1,7 @@
 use mathlib.Core.Path.{refl, sym, ap, ◌∙◌}
 use native.Mathlib.Omega.{arith}
 use borrow.Author.Rules.{rules}
-use Rattle.record.specs.inner.Head.{logOn, postsOn, recordIn, contentsIn}
+use Rattle.record.specs.inner.Head.{log_on, posts_on, record_in, contents_in}
 use Rattle.record.specs.Layout.{log_at}
 use Rattle.record.specs.declared.Record.{Record}
 use Rattle.record.proofs.PartLaws.{waiting_stays}
@@ -13,7 +13,7 @@ use Rattle.visit.proofs.hearing.hear.Statement.{statement}
 use Rattle.visit.proofs.hearing.hear.Tie as tie
 
 abbrev the-record : tie.Start → Record
-the-record c = recordIn c.args.h c.args.s.now
+the-record c = record_in c.args.h c.args.s.now
 
 own : (c : tie.Start) → Writable (the-record c).log
 own c = own_writable _ _ _ c.requires.0
@@ -56,7 +56,7 @@ returns-2 : tie.Need-returns-2
 returns-2 c =
     let start = c.before.before.before.before.before.before.before.before.before.before.before.before.before.before.before.before.before.before in
     leaves-heard start.args.h start.args.s.now _ c.before.before.before.before.before.before.before.before.contents-in2.ensures start.args.h.log _ _ _ _ _ c.before.before.before.before.before.before.hand-out2.ensures c.before.before.put-heard2.ensures _ IsAhead
-    (is-heard-ahead (the-record start) start.args.m start.args.content.now _ (c.before.before.before.before.before.before.before.before.before.before.before.before.before.is-had.ensures _) c.before.before.before.before.before.before.before.before.before.before.before.before.if1.false _ (c.before.before.before.before.before.before.before.before.before.before.before.is-ahead.ensures (contentsIn start.args.s.now log_at)) c.before.before.before.before.before.before.before.before.before.before.if2.true)
+    (is-heard-ahead (the-record start) start.args.m start.args.content.now _ (c.before.before.before.before.before.before.before.before.before.before.before.before.before.is-had.ensures _) c.before.before.before.before.before.before.before.before.before.before.before.before.if1.false _ (c.before.before.before.before.before.before.before.before.before.before.before.is-ahead.ensures (contents_in start.args.s.now log_at)) c.before.before.before.before.before.before.before.before.before.before.if2.true)
 
 keep-requires : tie.Need-keep-requires
 keep-requires c κs =
@@ -65,12 +65,12 @@ keep-requires c κs =
     (most.0, most.1, start.requires.1, content-short _ _ _ start.requires.0)
 
 -- the log once the message is kept
-kept : (c : tie.After-keep) → Writable (logOn c.keep.result (contentsIn c.keep.new.1.0 log_at))
+kept : (c : tie.After-keep) → Writable (log_on c.keep.result (contents_in c.keep.new.1.0 log_at))
 kept c =
     let start = c.before.before.before.before.before.before.before.before.before.before in
     kept-writable (the-record start) start.args.m start.args.content.now start.requires.0 _
     (sym (c.before.before.before.before.before.is-had.ensures _) ∙ c.before.before.before.before.if1.false)
-    (sym (c.before.before.before.is-ahead.ensures (contentsIn start.args.s.now log_at)) ∙ c.before.before.if2.false)
+    (sym (c.before.before.before.is-ahead.ensures (contents_in start.args.s.now log_at)) ∙ c.before.before.if2.false)
     c.keep.ensures.0
 
 contents-in-requires-3 : tie.Need-contents-in-requires-3
@@ -93,8 +93,8 @@ returns-3 c =
     let start = c.before.before.before.before.before.before.before.before.before.before.before.before.before.before.before.before.before.before.before.before.before.before in
     let s = c.before.before.before.before.before.before.before.before.before.before.before.before.keep.new.1.0 in
     leaves-heard start.args.h s _ c.before.before.before.before.before.before.before.before.contents-in3.ensures c.before.before.before.before.before.before.before.before.before.before.before.before.keep.result _ _ _ _ _ c.before.before.before.before.before.before.hand-out-kept.ensures c.before.before.put-heard3.ensures _ IsKept
-    (is-heard-kept (the-record start) start.args.m start.args.content.now _ (c.before.before.before.before.before.before.before.before.before.before.before.before.before.before.before.before.before.is-had.ensures _) c.before.before.before.before.before.before.before.before.before.before.before.before.before.before.before.before.if1.false _ (c.before.before.before.before.before.before.before.before.before.before.before.before.before.before.before.is-ahead.ensures (contentsIn start.args.s.now log_at)) c.before.before.before.before.before.before.before.before.before.before.before.before.before.before.if2.false
-    (recordIn start.args.h s) _ (refl, refl, ap (postsOn start.args.h.posts) (waiting_stays start.args.s.now s c.before.before.before.before.before.before.before.before.before.before.before.before.keep.ensures.1)) c.before.before.before.before.before.before.before.before.before.before.before.before.keep.ensures.0)
+    (is-heard-kept (the-record start) start.args.m start.args.content.now _ (c.before.before.before.before.before.before.before.before.before.before.before.before.before.before.before.before.before.is-had.ensures _) c.before.before.before.before.before.before.before.before.before.before.before.before.before.before.before.before.if1.false _ (c.before.before.before.before.before.before.before.before.before.before.before.before.before.before.before.is-ahead.ensures (contents_in start.args.s.now log_at)) c.before.before.before.before.before.before.before.before.before.before.before.before.before.before.if2.false
+    (record_in start.args.h s) _ (refl, refl, ap (posts_on start.args.h.posts) (waiting_stays start.args.s.now s c.before.before.before.before.before.before.before.before.before.before.before.before.keep.ensures.1)) c.before.before.before.before.before.before.before.before.before.before.before.before.keep.ensures.0)
 
 pub hear-spec : {M : Type 1} → statement M
 hear-spec =

@@ -1,11 +1,11 @@
 use borrow.Author.Rules.{rules}
 use Rattle.record.specs.Held.{holds}
-use Rattle.visit.specs.Message.{isHad}
+use Rattle.visit.specs.Message.{is_had}
 use Rattle.visit.proofs.hearing.is_had.Statement.{statement}
 use Rattle.visit.proofs.hearing.is_had.Tie as tie
 
 returns : tie.Need-returns
-unfolding isHad holds
+unfolding is_had holds
 returns c = λ contents. rw c.is_held_lem.ensures
 
 pub is-had-spec : {M : Type 1} → statement M

@@ -1,6 +1,6 @@
 use mathlib.Core.Path.{ap, ◌∙◌}
 use borrow.Author.Rules.{rules}
-use Rattle.record.specs.inner.Head.{logOn, contentsIn}
+use Rattle.record.specs.inner.Head.{log_on, contents_in}
 use Rattle.record.specs.Layout.{log_at}
 use Rattle.record.specs.declared.head.LogHead.{LogHead}
 use Rattle.record.specs.declared.log.Log.{Log}
@@ -17,9 +17,9 @@ level-of-requires c κs =
 
 returns : tie.Need-returns
 returns c =
-    let contents = contentsIn c.before.before.before.before.before.before.store_in.new.1.0 log_at in
-    let raises = raised-as (logOn c.before.before.before.before.before.before.store_in.result contents) c.before.level-of.result c.before.level-of.ensures in
-    (ap (λ (x : LogHead). logOn x contents) c.marked.ensures ∙ raises ∙ ap raised c.before.before.before.before.before.before.store_in.ensures.0, c.before.before.before.before.before.before.store_in.ensures.1)
+    let contents = contents_in c.before.before.before.before.before.before.store_in.new.1.0 log_at in
+    let raises = raised-as (log_on c.before.before.before.before.before.before.store_in.result contents) c.before.level-of.result c.before.level-of.ensures in
+    (ap (λ (x : LogHead). log_on x contents) c.marked.ensures ∙ raises ∙ ap raised c.before.before.before.before.before.before.store_in.ensures.0, c.before.before.before.before.before.before.store_in.ensures.1)
 
 pub keep_spec : {M : Type 1} → statement M
 keep_spec = tie.close (tie.spec (λ c κs. search rules) level-of-requires (λ c κs. search rules) (λ c. search rules) returns)

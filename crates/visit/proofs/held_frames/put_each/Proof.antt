@@ -1,7 +1,7 @@
 use Prim.Native.Nat.{◌≤◌, ◌-◌}
 use lib.ListN.{length, drop, drop_of_length-le}
 use borrow.Author.Rules.{rules}
-use Rattle.record.specs.inner.Head.{logOn, heldFrom}
+use Rattle.record.specs.inner.Head.{log_on, held_from}
 use Rattle.record.specs.declared.log.Log.{Log}
 use Rattle.visit.proofs.FrameLaws.{Writable}
 use Rattle.visit.proofs.PutFrames.{all-frameable, put-log, Putting, putting-starts, putting-next, putting-goes, putting-ends, from_next}
@@ -10,13 +10,13 @@ use Rattle.visit.proofs.held_frames.put_each.Tie as tie
 
 abbrev invariant-loop : tie.invariant-loop
 invariant-loop contents numbers out₀ at senders services lengths header at₀ i₀ out at' i =
-    (i ≤ length numbers) × Putting header (heldFrom senders services lengths contents) numbers out₀ at₀ (drop i numbers) out at'
+    (i ≤ length numbers) × Putting header (held_from senders services lengths contents) numbers out₀ at₀ (drop i numbers) out at'
 
 abbrev decreases-loop : tie.decreases-loop
 decreases-loop contents numbers out₀ at senders services lengths header at₀ i₀ out at' i = length numbers - i
 
 abbrev the-log : tie.Start invariant-loop decreases-loop → Log
-the-log c = logOn c.args.l c.args.contents.now
+the-log c = log_on c.args.l c.args.contents.now
 
 writable : (c : tie.Start invariant-loop decreases-loop) → Writable (the-log c)
 writable c = record { log = c.requires.0; header = c.requires.1 }

@@ -1,13 +1,13 @@
 use native.Mathlib.Omega.{arith}
 use borrow.Author.Rules.{rules}
 use Rattle.record.specs.declared.log.Held.{Held}
-use Rattle.record.specs.inner.Head.{heldFrom}
+use Rattle.record.specs.inner.Head.{held_from}
 use Rattle.visit.proofs.PutFrames.{held-content, held-short}
 use Rattle.visit.proofs.held_frames.put_held.Statement.{statement}
 use Rattle.visit.proofs.held_frames.put_held.Tie as tie
 
 abbrev the-held : tie.Start → Held
-the-held c = heldFrom c.args.senders.now c.args.services.now c.args.lengths.now c.args.contents.now
+the-held c = held_from c.args.senders.now c.args.services.now c.args.lengths.now c.args.contents.now
 
 put-message-requires : tie.Need-put-message-requires
 put-message-requires c κs =

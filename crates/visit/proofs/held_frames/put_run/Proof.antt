@@ -1,8 +1,8 @@
 use Prim.Native.Nat.{◌≤◌, ◌-◌}
 use borrow.Author.Rules.{rules}
-use Rattle.record.specs.inner.Head.{logOn, heldFrom}
+use Rattle.record.specs.inner.Head.{log_on, held_from}
 use Rattle.record.specs.declared.log.Log.{Log}
-use Rattle.record.specs.Count.{numbersAfter}
+use Rattle.record.specs.Count.{numbers_after}
 use Rattle.visit.proofs.FrameLaws.{Writable}
 use Rattle.visit.proofs.PutFrames.{run-frameable, put-log, Putting, putting-next, putting-goes, putting-ends, run_from, run-starts, run-next, run_ends, none-put}
 use Rattle.visit.proofs.held_frames.put_run.Statement.{statement}
@@ -10,13 +10,13 @@ use Rattle.visit.proofs.held_frames.put_run.Tie as tie
 
 abbrev invariant-loop : tie.invariant-loop
 invariant-loop contents last n out₀ at senders services lengths header at₀ i₀ out at' i =
-    (i ≤ n) × Putting header (heldFrom senders services lengths contents) (numbersAfter last.0 n) out₀ at₀ (run_from last.0 n i) out at'
+    (i ≤ n) × Putting header (held_from senders services lengths contents) (numbers_after last.0 n) out₀ at₀ (run_from last.0 n i) out at'
 
 abbrev decreases-loop : tie.decreases-loop
 decreases-loop contents last n out₀ at senders services lengths header at₀ i₀ out at' i = n - i
 
 abbrev the-log : tie.Start invariant-loop decreases-loop → Log
-the-log c = logOn c.args.l c.args.contents.now
+the-log c = log_on c.args.l c.args.contents.now
 
 writable : (c : tie.Start invariant-loop decreases-loop) → Writable (the-log c)
 writable c = record { log = c.requires.0; header = c.requires.1 }
@@ -47,7 +47,7 @@ same_length c = c.before.loop.invariant.1.long
 returns-2 : tie.Need-returns-2 invariant-loop decreases-loop
 returns-2 c =
     let start = c.before.before.before.before.before.before.before.before.before in
-    put-log (the-log start) (writable start) _ (c.before.before.ring-header.ensures start.args.contents.now) (numbersAfter start.args.last.0 start.args.n) start.args.out.now _ _ _
+    put-log (the-log start) (writable start) _ (c.before.before.ring-header.ensures start.args.contents.now) (numbers_after start.args.last.0 start.args.n) start.args.out.now _ _ _
     (putting-ends c.before.loop.invariant.1 (run_ends _ _ _ c.loop-test.false))
 
 pub put-run-spec : {M : Type 1} → statement M

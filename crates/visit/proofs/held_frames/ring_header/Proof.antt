@@ -3,11 +3,11 @@ use native.Mathlib.Nat.{sub-zero}
 use native.Mathlib.Omega.{arith}
 use lib.ListN.{length}
 use borrow.Author.Rules.{rules}
-use Rattle.record.specs.Size.{mostMembers}
+use Rattle.record.specs.Size.{most_members}
 use Rattle.visit.proofs.held_frames.ring_header.Statement.{statement}
 use Rattle.visit.proofs.held_frames.ring_header.Tie as tie
 
-long : (c : tie.Start) → length c.args.l.members ≡ mostMembers
+long : (c : tie.Start) → length c.args.l.members ≡ most_members
 long c = search rules
 
 part-representative-of-end : tie.Need-slice-bounds-representative-of-end

@@ -5,14 +5,14 @@ use lib.ListN.{get_or}
 use lib.Dec.{ltb, leb, eqb}
 use borrow.Author.Rules.{rules}
 use borrow.Author.Tests.{not-true, not-false}
-use Rattle.record.specs.Size.{mostHeld}
+use Rattle.record.specs.Size.{most_held}
 use Rattle.record.specs.Held.{place_of}
 use Rattle.visit.proofs.HearLaws.{Rising, rise-starts, rise-stops, rise-goes, rise-ends}
 use Rattle.visit.proofs.level.level_of.Statement.{statement}
 use Rattle.visit.proofs.level.level_of.Tie as tie
 
 abbrev invariant-loop : tie.invariant-loop
-invariant-loop safe senders reached₀ most₀ reached most = Rising (λ n. ltb safe.0 n && leb n (safe.0 + mostHeld) && not (eqb (get_or senders (place_of n) 0) 0)) reached₀ reached most
+invariant-loop safe senders reached₀ most₀ reached most = Rising (λ n. ltb safe.0 n && leb n (safe.0 + most_held) && not (eqb (get_or senders (place_of n) 0) 0)) reached₀ reached most
 
 abbrev decreases-loop : tie.decreases-loop
 decreases-loop safe senders reached₀ most₀ reached most = most

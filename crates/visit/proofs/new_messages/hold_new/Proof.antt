@@ -2,7 +2,7 @@ use Prim.Native.Nat.{◌-◌}
 use mathlib.Core.Path.{◌∙◌}
 use native.Mathlib.Omega.{arith}
 use borrow.Author.Rules.{rules}
-use Rattle.record.specs.inner.Head.{recordIn, contentsIn, headWith}
+use Rattle.record.specs.inner.Head.{record_in, contents_in, head_with}
 use Rattle.record.specs.Layout.{log_at}
 use Rattle.record.specs.declared.posts.Posts.{Posts}
 use Rattle.record.proofs.RangeFacts.{PostsRange, posts-range}
@@ -12,13 +12,13 @@ use Rattle.visit.proofs.new_messages.hold_new.Tie as tie
 
 abbrev invariant-loop : tie.invariant-loop
 invariant-loop h s highest n posts log senders₀ services₀ lengths₀ i₀ senders services lengths i =
-    Heading log (contentsIn s log_at) h.own highest.0 (recordIn h s).posts n (headWith log log.level log.safe log.delivered senders services lengths) i
+    Heading log (contents_in s log_at) h.own highest.0 (record_in h s).posts n (head_with log log.level log.safe log.delivered senders services lengths) i
 
 abbrev decreases-loop : tie.decreases-loop
 decreases-loop h s highest n posts log senders₀ services₀ lengths₀ i₀ senders services lengths i = n - i
 
 abbrev the-posts : tie.Start invariant-loop decreases-loop → Posts
-the-posts c = (recordIn c.args.h c.args.s.now).posts
+the-posts c = (record_in c.args.h c.args.s.now).posts
 
 range : (c : tie.Start invariant-loop decreases-loop) → PostsRange (the-posts c)
 range c = posts-range (the-posts c) c.requires.0

@@ -4,27 +4,27 @@ use mathlib.Core.List.{List}
 use native.Mathlib.Omega.{arith}
 use lib.ListN.{length, drop}
 use borrow.Author.Rules.{rules}
-use Rattle.record.specs.inner.Head.{postsOn, contentsIn, waitingIn}
-use Rattle.record.specs.Layout.{recordSize, log_at, turnAt, postsAt}
+use Rattle.record.specs.inner.Head.{posts_on, contents_in, waiting_in}
+use Rattle.record.specs.Layout.{record_size, log_at, turn_at, posts_at}
 use Rattle.record.specs.declared.head.LogHead.{LogHead}
 use Rattle.record.specs.declared.posts.Posts.{Posts}
 use Rattle.record.proofs.PartLaws.{waiting_stays}
 use Rattle.record.proofs.RangeFacts.{PostsRange, posts-range}
-use Rattle.visit.proofs.HoldNew.{postsIn, Placing, placing-starts, placing-goes, placing-ends}
+use Rattle.visit.proofs.HoldNew.{posts_in, Placing, placing-starts, placing-goes, placing-ends}
 use Rattle.visit.proofs.new_messages.place_new.Statement.{statement}
 use Rattle.visit.proofs.new_messages.place_new.Tie as tie
 
 abbrev invariant-loop : tie.invariant-loop
 invariant-loop s₀ highest n lengths i₀ s i =
-    (length s ≡ recordSize)
-    × (drop turnAt s ≡ drop turnAt s₀)
-    × ((l : LogHead) (own : ℕ) (services : List ℕ) → Placing l own highest.0 (postsIn n services lengths (waitingIn s₀ postsAt)) n (contentsIn s₀ log_at) (contentsIn s log_at) i)
+    (length s ≡ record_size)
+    × (drop turn_at s ≡ drop turn_at s₀)
+    × ((l : LogHead) (own : ℕ) (services : List ℕ) → Placing l own highest.0 (posts_in n services lengths (waiting_in s₀ posts_at)) n (contents_in s₀ log_at) (contents_in s log_at) i)
 
 abbrev decreases-loop : tie.decreases-loop
 decreases-loop s₀ highest n lengths i₀ s i = n - i
 
 abbrev the-posts : tie.Start invariant-loop decreases-loop → Posts
-the-posts c = postsOn c.args.posts (waitingIn c.args.s.now postsAt)
+the-posts c = posts_on c.args.posts (waiting_in c.args.s.now posts_at)
 
 range : (c : tie.Start invariant-loop decreases-loop) → PostsRange (the-posts c)
 range c = posts-range (the-posts c) c.requires.1

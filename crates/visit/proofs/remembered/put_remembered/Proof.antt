@@ -3,12 +3,12 @@ use native.Mathlib.Omega.{arith}
 use lib.ListN.{length}
 use borrow.Author.Rules.{rules}
 use lib.Seq.{length-take-le}
-use Rattle.frames.specs.Layout.{longestToken}
+use Rattle.frames.specs.Layout.{longest_token}
 use Rattle.visit.proofs.RememberedLaws.{remembered-stored}
 use Rattle.visit.proofs.remembered.put_remembered.Statement.{statement}
 use Rattle.visit.proofs.remembered.put_remembered.Tie as tie
 
-long : (c : tie.Start) → length c.args.t.token ≡ longestToken
+long : (c : tie.Start) → length c.args.t.token ≡ longest_token
 long c = search rules
 
 part-put-bytes-end : tie.Need-slice-bounds-put-bytes-end

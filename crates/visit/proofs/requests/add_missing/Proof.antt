@@ -7,8 +7,8 @@ use native.Mathlib.Omega.{arith}
 use lib.ListN.{length, take}
 use borrow.Author.Rules.{rules}
 use Rattle.words.specs.Scan.{lacks}
-use Rattle.frames.specs.Layout.{mostRequests}
-use Rattle.record.specs.inner.Head.{logOn}
+use Rattle.frames.specs.Layout.{most_requests}
+use Rattle.record.specs.inner.Head.{log_on}
 use Rattle.record.specs.Held.{holds}
 use Rattle.visit.proofs.ListedLaws.{Adding, adding-starts, adding-adds, adding-skips, adding-full, adding-ends, wanted}
 use Rattle.visit.proofs.requests.add_missing.Statement.{statement}
@@ -16,9 +16,9 @@ use Rattle.visit.proofs.requests.add_missing.Tie as tie
 
 abbrev invariant-loop : tie.invariant-loop
 invariant-loop l top senders rest size numbers₀ count₀ last₀ numbers count last =
-    (size ≤ mostRequests)
-    × (count ≤ mostRequests)
-    × ((contents : List ℕ) → Adding (λ n. not (holds (logOn l contents) n) && lacks (take size rest) n) (take size rest) last₀ top.0 (record { numbers = numbers; count = count }) last)
+    (size ≤ most_requests)
+    × (count ≤ most_requests)
+    × ((contents : List ℕ) → Adding (λ n. not (holds (log_on l contents) n) && lacks (take size rest) n) (take size rest) last₀ top.0 (record { numbers = numbers; count = count }) last)
 
 abbrev decreases-loop : tie.decreases-loop
 decreases-loop l top senders rest size numbers₀ count₀ last₀ numbers count last = top.0 - last
@@ -32,7 +32,7 @@ returns c = λ contents. adding-full _ _ _ _ _ _ (c.before.before.before.loop.in
 part-lacks-u32-end : tie.Need-slice-bounds-lacks-u32-end invariant-loop decreases-loop
 part-lacks-u32-end c =
     let start = c.before.before.before.before.before.before.before.before.before.before.before in
-    let long : length start.args.asked.numbers ≡ mostRequests = search rules in
+    let long : length start.args.asked.numbers ≡ most_requests = search rules in
     omega (arith, long, c.before.before.before.before.before.before.loop.invariant.0)
 
 loop-again : tie.Need-loop-preserved invariant-loop decreases-loop

@@ -5,8 +5,8 @@ use lib.ListN.{length}
 use mathlib.Core.Logic.{⊎_elim}
 use mathlib.Core.Bool.{not}
 use borrow.Author.Rules.{rules}
-use Rattle.frames.specs.Layout.{mostRequests}
-use Rattle.record.specs.inner.Head.{logOn}
+use Rattle.frames.specs.Layout.{most_requests}
+use Rattle.record.specs.inner.Head.{log_on}
 use Rattle.record.specs.Held.{holds}
 use Rattle.visit.specs.inner.Steps.{listed}
 use Rattle.visit.proofs.ListedLaws.{Gathered, gathered_none, gathered-few, gathered-takes, gathered-leaves, gathered-all}
@@ -16,8 +16,8 @@ use Rattle.visit.proofs.requests.split_requests.Tie as tie
 abbrev invariant-loop : tie.invariant-loop
 invariant-loop l requests senders held₀ rest₀ repeats₀ left₀ i₀ held rest repeats left i =
     (contents : List ℕ)
-    → Gathered (holds (logOn l contents)) requests i (record { numbers = held; count = repeats })
-    × Gathered (λ n. not (holds (logOn l contents) n)) requests i (record { numbers = rest; count = left })
+    → Gathered (holds (log_on l contents)) requests i (record { numbers = held; count = repeats })
+    × Gathered (λ n. not (holds (log_on l contents) n)) requests i (record { numbers = rest; count = left })
 
 abbrev decreases-loop : tie.decreases-loop
 decreases-loop l requests senders held₀ rest₀ repeats₀ left₀ i₀ held rest repeats left i = length requests - i
@@ -27,7 +27,7 @@ unfolding listed
 loop-holds c = λ contents. (gathered_none _ _ refl, gathered_none _ _ refl)
 
 -- both lists have a place left for this request
-room : (c : tie.After-is-held invariant-loop decreases-loop) → (c.before.before.before.before.loop.repeats < mostRequests) × (c.before.before.before.before.loop.left < mostRequests)
+room : (c : tie.After-is-held invariant-loop decreases-loop) → (c.before.before.before.before.loop.repeats < most_requests) × (c.before.before.before.before.loop.left < most_requests)
 room c =
     let at = c.before.before.before.before.loop.invariant [] in
     let more = c.before.before.before.loop-test.true in

@@ -1,8 +1,8 @@
 use mathlib.Core.Path.{ap, ◌∙◌}
 use native.Mathlib.Omega.{arith}
 use borrow.Author.Rules.{rules}
-use Rattle.record.specs.Bytes.{recordBytes}
-use Rattle.record.specs.inner.Head.{postsOn, recordIn}
+use Rattle.record.specs.Bytes.{record_bytes}
+use Rattle.record.specs.inner.Head.{posts_on, record_in}
 use Rattle.record.proofs.PartLaws.{waiting_stays}
 use Rattle.visit.specs.Visit.{Visit}
 use Rattle.visit.specs.Acceptable.{visit}
@@ -12,7 +12,7 @@ use Rattle.visit.proofs.visiting.accept.Statement.{statement}
 use Rattle.visit.proofs.visiting.accept.Tie as tie
 
 abbrev the-visit : tie.Start → Visit
-the-visit c = visit (recordIn c.args.h c.args.s.now) c.args.t
+the-visit c = visit (record_in c.args.h c.args.s.now) c.args.t
 
 broadcast-requires : tie.Need-broadcast-requires
 broadcast-requires c κs = let start = c.before.before.before.before.before in (start.requires.0, omega (arith, start.requires.1), start.requires.2)
@@ -53,12 +53,12 @@ returns c =
     let a = start.requires.0 in
     let sends = c.before.before.before.before.before.before.before.before.before.before.before.before.before.before.before.before.before.before.before.before.broadcast.ensures in
     let forwards = c.before.before.before.before.before.before.before.before.before.before.before.before.before.before.before.before.forward.ensures in
-    let newNumbers = c.before.before.before.before.before.before.before.before.before.before.before.before.before.send-new.ensures in
+    let new_numbers = c.before.before.before.before.before.before.before.before.before.before.before.before.before.send-new.ensures in
     let leaves = rw c.before.before.before.before.before.before.before.before.with-parts.ensures at c.before.before.before.before.finish.ensures in (
-      left v a _ sends.0 _ forwards _ newNumbers.1 _ _ newNumbers.0 leaves.0,
-      leaves.1 ∙ ap recordBytes (left-record v a _ sends.0 _ forwards _ newNumbers.1 _ (ap (postsOn start.args.h.posts) (waiting_stays start.args.s.now c.before.before.before.before.before.before.before.before.before.before.before.before.before.send-new.new.1.0 newNumbers.2))),
-      all-written v a _ sends.0 _ _ _ start.requires.2 sends.1 newNumbers.3,
-      hands_out v a _ sends.0 _ forwards _ newNumbers.1 _ _ leaves.2,
+      left v a _ sends.0 _ forwards _ new_numbers.1 _ _ new_numbers.0 leaves.0,
+      leaves.1 ∙ ap record_bytes (left-record v a _ sends.0 _ forwards _ new_numbers.1 _ (ap (posts_on start.args.h.posts) (waiting_stays start.args.s.now c.before.before.before.before.before.before.before.before.before.before.before.before.before.send-new.new.1.0 new_numbers.2))),
+      all-written v a _ sends.0 _ _ _ start.requires.2 sends.1 new_numbers.3,
+      hands_out v a _ sends.0 _ forwards _ new_numbers.1 _ _ leaves.2,
     )
 
 pub accept-spec : {M : Type 1} → statement M

@@ -2,8 +2,8 @@ use mathlib.Core.Path.{◌≡◌, ◌∙◌}
 use native.Mathlib.Omega.{arith}
 use lib.ListN.{length}
 use borrow.Author.Rules.{rules}
-use Rattle.record.specs.inner.Head.{recordIn}
-use Rattle.record.specs.Layout.{recordSize}
+use Rattle.record.specs.inner.Head.{record_in}
+use Rattle.record.specs.Layout.{record_size}
 use Rattle.visit.proofs.DueCount.{due-fits}
 use Rattle.visit.proofs.LeftLaws.{stored-left}
 use Rattle.visit.proofs.visiting.finish.Statement.{statement}
@@ -18,7 +18,7 @@ add-t17 : tie.Need-overflow-add-t17
 add-t17 c =
     let start = c.before.before.before.before.before.before.before.before.before.before in
     let hands = rw c.before.before.before.before.before.before.contents-in.ensures at c.before.before.before.before.hand-out.ensures in
-    omega (arith, (due-fits (recordIn start.args.h start.args.s.now).log _ _ hands.0 start.requires.1).most)
+    omega (arith, (due-fits (record_in start.args.h start.args.s.now).log _ _ hands.0 start.requires.1).most)
 
 let-go-in-requires : tie.Need-let-go-in-requires
 let-go-in-requires c κs = let start = c.before.before.before.before.before.before.before.before.before.before.before.before in (start.requires.0, start.requires.3, start.requires.4)
@@ -38,7 +38,7 @@ returns : tie.Need-returns
 returns c =
     let start = c.before.before.before.before.before.before.before.before.before.before.before.before.before.before.before.before.before.before.before.before.before.before.before.before in
     let hands = rw c.before.before.before.before.before.before.before.before.before.before.before.before.before.before.before.before.before.before.before.before.contents-in.ensures at c.before.before.before.before.before.before.before.before.before.before.before.before.before.before.before.before.before.before.hand-out.ensures in
-    let long : length c.before.before.before.before.before.before.before.take-oldest-in.new.1.0 ≡ recordSize = c.before.before.before.before.before.before.before.take-oldest-in.auto.1.0 ∙ c.before.before.before.before.before.before.before.before.before.before.before.let-go-in.auto.1.0 ∙ start.requires.0 in (
+    let long : length c.before.before.before.before.before.before.before.take-oldest-in.new.1.0 ≡ record_size = c.before.before.before.before.before.before.before.take-oldest-in.auto.1.0 ∙ c.before.before.before.before.before.before.before.before.before.before.before.let-go-in.auto.1.0 ∙ start.requires.0 in (
       hands.1,
       stored-left start.args.h start.args.s.now c.before.before.before.before.before.before.before.before.before.before.before.let-go-in.new.1.0 c.before.before.before.before.before.before.before.take-oldest-in.new.1.0 _ _ _ _ _ _ long hands.0 c.before.before.before.before.before.before.before.before.before.before.before.let-go-in.ensures c.before.before.before.before.before.before.before.take-oldest-in.ensures (rw c.before.before.before.before.with-parts.ensures at c.before.before.put-head.ensures),
       hands.2,

@@ -3,11 +3,11 @@ use mathlib.Core.Path.{◌≡◌}
 use native.Mathlib.Omega.{arith}
 use lib.ListN.{length, drop, length-take, length-drop}
 use borrow.Author.Rules.{rules}
-use Rattle.frames.specs.Layout.{longestToken}
-use Rattle.record.specs.inner.Head.{logOn, recordIn, contentsIn}
+use Rattle.frames.specs.Layout.{longest_token}
+use Rattle.record.specs.inner.Head.{log_on, record_in, contents_in}
 use Rattle.record.specs.Layout.{log_at}
 use Rattle.record.specs.Turn.{remembered}
-use Rattle.visit.specs.Visit.{Visit, logNow}
+use Rattle.visit.specs.Visit.{Visit, log_now}
 use Rattle.visit.specs.Acceptable.{visit}
 use Rattle.visit.proofs.PutFrames.{part-put}
 use Rattle.visit.proofs.Finish.{place-ready, placed, run-ready, token-room, token-fits, remembered-room, all-size, all-behind}
@@ -15,7 +15,7 @@ use Rattle.visit.proofs.visiting.send_new.Statement.{statement}
 use Rattle.visit.proofs.visiting.send_new.Tie as tie
 
 abbrev the-visit : tie.Start → Visit
-the-visit c = visit (recordIn c.args.h c.args.s.now) c.args.t
+the-visit c = visit (record_in c.args.h c.args.s.now) c.args.t
 
 place-new-requires : tie.Need-place-new-requires
 place-new-requires c κs =
@@ -27,7 +27,7 @@ contents-in-requires : tie.Need-contents-in-requires
 contents-in-requires c κs = omega (arith, c.before.before.before.place-new.auto.0, c.before.before.before.before.before.before.before.requires.3)
 
 -- the log that is held once the contents have moved
-moved : (c : tie.After-place-new) → logOn c.before.before.before.before.args.b.log (contentsIn c.place-new.new.0 log_at) ≡ logNow (the-visit c.before.before.before.before)
+moved : (c : tie.After-place-new) → log_on c.before.before.before.before.args.b.log (contents_in c.place-new.new.0 log_at) ≡ log_now (the-visit c.before.before.before.before)
 moved c = let start = c.before.before.before.before in placed (the-visit start) start.requires.0 _ start.requires.1 _ c.place-new.ensures.0
 
 put-run-requires : tie.Need-put-run-requires
@@ -35,7 +35,7 @@ put-run-requires c κs =
     let start = c.before.before.before.before.before.before.before.before.before in
     rw c.before.contents-in.ensures (run-ready (the-visit start) start.requires.0 _ start.requires.1 _ (moved c.before.before.before.before.before) _ start.requires.4)
 
-room : (c : tie.After-put-run) → c.put-run.result + longestToken ≤ length c.put-run.new.1.1.1.1.0
+room : (c : tie.After-put-run) → c.put-run.result + longest_token ≤ length c.put-run.new.1.1.1.1.0
 room c =
     let start = c.before.before.before.before.before.before.before.before.before.before in
     token-room (the-visit start) start.requires.0 _ start.requires.1 _ (moved c.before.before.before.before.before.before) _ _ _ (rw c.before.before.contents-in.ensures at c.put-run.ensures) start.requires.4

@@ -3,7 +3,7 @@ use mathlib.Core.Path.{sym, ◌∙◌}
 use lib.ListN.{length}
 use borrow.Author.Rules.{rules}
 use borrow.Author.Tests.{not-true, not-false}
-use Rattle.words.proofs.ScanLaws.{Scanning, scan-starts, scan-stops, scan-goes, scan-ends, to_end}
+use Rattle.words.proofs.ScanLaws.{Scanning, scan-starts, scan-stops, scan-goes, scan-ends, to-end}
 use Rattle.words.specs.Scan.{lacks}
 use Rattle.words.proofs.scan.distinct_u32.Statement.{statement}
 use Rattle.words.proofs.scan.distinct_u32.Tie as tie
@@ -21,14 +21,14 @@ returns : tie.Need-returns invariant-loop decreases-loop
 returns c =
     scan-stops _ _ _
     c.before.before.before.before.before.loop.invariant
-    c.before.before.before.before.loop-test.true (rw to_end at (sym
+    c.before.before.before.before.loop-test.true (rw to-end at (sym
     c.before.lacks-u32.ensures) ∙ not-true _ c.if1.true)
 
 loop-again : tie.Need-loop-preserved invariant-loop decreases-loop
 loop-again c =
     scan-goes _ _ _
     c.before.before.before.before.before.loop.invariant
-    c.before.before.before.before.loop-test.true (rw to_end at (sym
+    c.before.before.before.before.loop-test.true (rw to-end at (sym
     c.before.lacks-u32.ensures) ∙ not-false _ c.if1.false)
 
 returns-2 : tie.Need-returns-2 invariant-loop decreases-loop
