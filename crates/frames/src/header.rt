@@ -7,7 +7,7 @@ ghost use Rattle.frames.specs.Layout.{length_size, most_framed, header_size};
 use crate::number::RingNumber;
 use crate::{layout, number};
 
-#[derive(Drop)]
+#[derive(Clone, Copy)]
 pub struct Header {
     pub ring: RingNumber,
     pub representative: u16,

@@ -7,7 +7,7 @@ use crate::header::Header;
 use crate::number::MessageNumber;
 use crate::{header, layout, number};
 
-#[derive(Drop)]
+#[derive(Clone, Copy)]
 pub struct Message {
     pub header: Header,
     pub sender: u16,

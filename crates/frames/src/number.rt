@@ -2,13 +2,13 @@
 ghost use Rattle.std.specs.Prelude.{◌≡◌};
 ghost use Rattle.frames.specs.Number.{is_number, is_id};
 
-#[derive(Drop)]
+#[derive(Clone, Copy)]
 pub struct RingNumber(pub u32);
 
-#[derive(Drop)]
+#[derive(Clone, Copy)]
 pub struct MessageNumber(pub u32);
 
-#[derive(Drop)]
+#[derive(Clone, Copy)]
 pub struct TokenNumber(pub u32);
 
 pub const MOST_NUMBER: u32 = 2000000000;

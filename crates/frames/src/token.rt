@@ -8,7 +8,7 @@ use crate::number::{MessageNumber, TokenNumber};
 use crate::{header, layout, number};
 
 // Whoever holds the aru below the highest: nobody, written 0, or one member. The paper's aru_id.
-#[derive(Drop)]
+#[derive(Clone, Copy)]
 pub enum Blocker {
     Nobody,
     Member(u16),
