@@ -1,5 +1,7 @@
 // The bench: a script on standard input founds a ring of stations, posts readings and hands the token
 // round; deliveries and refusals are printed.
+#![tactic(auto)]
+
 mod command;
 mod kept;
 mod line;

@@ -1,5 +1,7 @@
 // The logger: frames one after another on standard input, a line of text for each on standard
 // output. Whole frames that have come are shown before more input is waited for.
+#![tactic(auto)]
+
 mod input;
 mod line;
 

@@ -1,6 +1,8 @@
 // Totem frames: the reader and the writer. A logger can use this crate alone. Every public function
 // takes any values and any bytes of any length; `read`, `write_message` and `write_token` answer what
 // is wrong by its number.
+#![tactic(auto)]
+
 mod header;
 mod layout;
 mod message;

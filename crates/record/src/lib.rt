@@ -1,4 +1,6 @@
 // The station record: what it holds, when it is whole, and its bytes. Nothing here knows a call.
+#![tactic(auto)]
+
 mod bytes;
 mod fresh;
 mod head;

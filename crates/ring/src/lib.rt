@@ -1,6 +1,8 @@
 // A ring of 2 to 8 stations. What is proved of it stands in specs/: demand 3, that delivery lists are the
 // readings in order, that records stay whole, that the newest token is never refused, and all of it for
 // records as bytes. For programs: a ring's stations by place in lent bytes.
+#![tactic(auto)]
+
 mod broadcasts;
 mod founding;
 mod members;

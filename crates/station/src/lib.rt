@@ -1,5 +1,7 @@
 // One station of a ring: founding, posting, arrival and resending, each as a step by value and as a call on a
 // lent record. Every public call takes any values and any bytes of any length.
+#![tactic(auto)]
+
 mod answer;
 mod arriving;
 mod calls;

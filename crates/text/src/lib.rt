@@ -1,5 +1,7 @@
 // Text, put into a buffer at a position. Each function answers the position after what it put. A
 // piece that there is no room for is left out.
+#![tactic(auto)]
+
 ghost use Rattle.std.specs.Prelude.{◌≡◌, ◌<◌};
 ghost use Rattle.text.specs.Text.{filled, put, piece, decimal, is_plain, escaped_byte, escaped};
 ghost use Rattle.text.specs.Text.{hexadecimal as Text·hexadecimal};

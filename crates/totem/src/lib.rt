@@ -1,5 +1,7 @@
 // The calls for hosts in C: thin functions on numbers and byte slices (a pointer and a length each), the station's
 // calls in lent bytes with their answer in document 01's numbers. include/totem.h declares and documents them.
+#![tactic(auto)]
+
 ghost use Rattle.std.specs.Prelude.{[], length};
 ghost use Rattle.station.specs.Answer.{outcome_of};
 ghost use Rattle.station.specs.Reply.{Does};

@@ -1,5 +1,7 @@
 // What the paper's Figure 3 does with a message and with a token, on a record in lent bytes. Nothing here refuses:
 // the crate above has asked the questions, and each function has a `requires` that says which.
+#![tactic(auto)]
+
 mod broadcasting;
 mod circulation;
 mod covering;

@@ -1,6 +1,8 @@
 // Little-endian words in byte slices, runs of them, and tests of whole slices: what the frames and
 // the station record both stand on. And what counts need besides. A function that takes a position asks that the
 // bytes are there; whoever lends bytes of any length tests that first.
+#![tactic(auto)]
+
 mod count;
 mod run;
 mod scan;

@@ -1,0 +1,14 @@
+use Prim.Native.Nat.{◌-◌}
+use native.Mathlib.Omega.{arith}
+use borrow.Author.Rules.{rules}
+use Rattle.words.proofs.RunLaws.{Reading, reading-starts, reading-goes, reading-ends}
+use Rattle.words.proofs.run.get_u16s.Goals as goal
+
+pub loop-i-init : goal.loop-i-init
+loop-i-init c = reading-starts 2 _ _ _ _
+
+pub loop-i-preserved : goal.loop-i-preserved
+loop-i-preserved c = reading-goes 2 _ _ _ _ _ _ _ c.loop-i.invariant c.loop-i-test.true c.get_u16.ensures
+
+pub returns : goal.returns
+returns c = reading-ends 2 _ _ _ _ _ _ c.loop-i.invariant c.loop-i-test.false (omega arith)

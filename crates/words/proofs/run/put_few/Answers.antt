@@ -1,0 +1,8 @@
+use native.Mathlib.Omega.{arith}
+use borrow.Author.Rules.{rules}
+use Rattle.words.proofs.StoreLaws.{piece-ends}
+use Rattle.words.proofs.run.put_few.Goals as goal
+
+pub returns : goal.returns
+returns c =
+    piece-ends c.args.out.now c.args.xs.now _ _ _ 8 8 c.if-n-lt8.false c.if-n-lt8.false (omega (arith, c.requires)) c.requires.1 c.put_piece.ensures c.put_piece-2.ensures

@@ -1,0 +1,18 @@
+use Prim.Native.Nat.{◌-◌}
+use lib.ListN.{length}
+use borrow.Author.Rules.{rules}
+use Rattle.words.proofs.RunLaws.{Storing, storing-starts, storing-goes, storing-ends}
+use Rattle.words.proofs.run.put_u32s.Goals as goal
+
+pub loop-i-init : goal.loop-i-init
+loop-i-init c = storing-starts 4 _ _ _
+
+pub loop-i-preserved : goal.loop-i-preserved
+loop-i-preserved c =
+    storing-goes 4 _ _ _ _ _ _
+    c.loop-i.invariant
+    c.loop-i-test.true
+    c.put_u32.ensures
+
+pub returns : goal.returns
+returns c = storing-ends 4 _ _ _ _ _ c.loop-i.invariant c.loop-i-test.false

@@ -1,0 +1,15 @@
+use Prim.Native.Nat.{◌+◌, ◌-◌, ◌≤◌}
+use mathlib.Core.Path.{◌≡◌, refl, sym, ◌∙◌}
+use lib.ListN.{length, drop}
+use borrow.Author.Rules.{rules}
+use lib.Seq.{sets}
+use Rattle.words.proofs.RunLaws.{copying-goes}
+use lib.ListN.{drop_of_length-le}
+use native.Mathlib.Nat.{add-zero}
+use Rattle.words.proofs.run.store_u16s.Given as goal
+
+abbrev pub invariant-loop-i : goal.invariant-loop-i
+invariant-loop-i l = (l.i ≤ length l.xs) × (length l.out ≡ length l.initial.out) × (sets l.out (l.at + l.i) (drop l.i l.xs) ≡ sets l.initial.out l.at l.xs)
+
+abbrev pub decreases-loop-i : goal.decreases-loop-i
+decreases-loop-i l = length l.xs - l.i
