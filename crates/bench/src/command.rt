@@ -2,7 +2,7 @@
 use crate::line::{Fault, Fields, Line, Part};
 use crate::{line, number};
 
-#[derive(Drop)]
+#[derive(Clone, Copy)]
 pub enum Command {
     Nothing,
     Found(u32),

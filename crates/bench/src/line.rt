@@ -3,7 +3,7 @@
 use crate::{kept, number};
 
 // What is wrong with a line that isn't understood.
-#[derive(Drop)]
+#[derive(Clone, Copy)]
 pub enum Fault {
     Letter,
     NoNumber,
@@ -15,7 +15,7 @@ pub enum Fault {
 }
 
 // What the next byte belongs to.
-#[derive(Drop)]
+#[derive(Clone, Copy)]
 pub enum Part {
     Letter,
     Gap,
@@ -25,7 +25,7 @@ pub enum Part {
     Wrong(Fault),
 }
 
-#[derive(Drop)]
+#[derive(Clone, Copy)]
 pub struct Fields {
     pub letter: u8,
     // The number that is being read, and whether it has a digit yet.
@@ -41,7 +41,7 @@ pub struct Fields {
     pub used: usize,
 }
 
-#[derive(Drop)]
+#[derive(Clone, Copy)]
 pub struct Line {
     pub part: Part,
     pub fields: Fields,

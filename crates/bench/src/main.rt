@@ -17,7 +17,7 @@ use line::Line;
 use run::Bench;
 
 // The script's place, the line that is being read, and whether nothing more is read.
-#[derive(Drop)]
+#[derive(Clone, Copy)]
 struct Script {
     bench: Bench,
     line: Line,

@@ -4,7 +4,7 @@ use crate::line::Fault;
 use libc::{STDERR_FILENO, STDOUT_FILENO};
 
 // How much of the buffer is used, and whether a write has failed.
-#[derive(Drop)]
+#[derive(Clone, Copy)]
 pub struct Output {
     pub used: usize,
     pub is_broken: bool,

@@ -7,7 +7,7 @@ use crate::{kept, output, print, sizes, stations};
 use frames::RingNumber;
 
 // Where the script stands: the ring, the output, and the number of the line.
-#[derive(Drop)]
+#[derive(Clone, Copy)]
 pub struct Bench {
     pub ring: Ring,
     pub output: Output,

@@ -5,7 +5,7 @@ use station::Outcome;
 
 // How many members the ring has, 0 before there is one, and their list, two bytes an id; how long the
 // newest token is, and its bytes.
-#[derive(Drop)]
+#[derive(Clone, Copy)]
 pub struct Ring {
     pub members: usize,
     pub list: [u8; kept::IDS_ROOM],

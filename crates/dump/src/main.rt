@@ -22,7 +22,7 @@ fn flush(out: &[u8], used: usize) -> bool
 }
 
 // How far a step came in a buffer, and whether the program goes on.
-#[derive(Drop)]
+#[derive(Clone, Copy)]
 struct Progress {
     at: usize,
     goes_on: bool,

@@ -9,7 +9,7 @@ use crate::refusal::Refusal;
 use crate::token::{Blocker, Token};
 use crate::{header, layout, message, token};
 
-#[derive(Drop)]
+#[derive(Clone, Copy)]
 pub enum Answer {
     Refused(Refusal),
     // The content is the part of the frame that `content` gives.
@@ -19,7 +19,7 @@ pub enum Answer {
 }
 
 // `token` has the values where the answer is IsToken, and is all zero otherwise.
-#[derive(Drop)]
+#[derive(Clone, Copy)]
 pub struct Reading {
     pub answer: Answer,
     pub token: Token,

@@ -14,7 +14,7 @@ pub enum Blocker {
     Member(u16),
 }
 
-#[derive(Drop)]
+#[derive(Clone, Copy)]
 pub struct Token {
     pub header: Header,
     pub addressee: u16,

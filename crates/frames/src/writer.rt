@@ -12,7 +12,7 @@ use crate::token::Token;
 use crate::{header, layout, message, token};
 
 // The frame's size in bytes, or why nothing was written.
-#[derive(Drop)]
+#[derive(Clone, Copy)]
 pub enum Written {
     Size(usize),
     Refused(Refusal),

@@ -10,7 +10,7 @@ use crate::turn::Turn;
 use crate::{Record, size};
 use frames::{MessageNumber, RingNumber};
 
-#[derive(Drop)]
+#[derive(Clone, Copy)]
 pub struct LogHead {
     pub ring: RingNumber,
     pub members: [u16; size::MOST_MEMBERS],
@@ -23,7 +23,7 @@ pub struct LogHead {
     pub count: u8,
 }
 
-#[derive(Drop)]
+#[derive(Clone, Copy)]
 pub struct PostsHead {
     pub services: [u16; size::MOST_POSTS],
     pub lengths: [u8; size::MOST_POSTS],
@@ -31,7 +31,7 @@ pub struct PostsHead {
 }
 
 // The own id stands behind the turn, which ends at an odd byte: so there is no hole before the posts' arrays.
-#[derive(Drop)]
+#[derive(Clone, Copy)]
 pub struct Head {
     pub log: LogHead,
     pub turn: Turn,

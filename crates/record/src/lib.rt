@@ -38,7 +38,7 @@ pub use bytes::{decode, encode, post_count, put_fresh, put_head, put_post, turn_
 pub use held::{is_held, numbers_before};
 pub use lent::{contents_in, hold_content_in, is_whole_at, let_go_in, store_in, take_oldest_in};
 
-#[derive(Drop)]
+#[derive(Clone, Copy)]
 pub struct Record {
     pub own: u16,
     // How many messages are held and not delivered: what the panel shows.

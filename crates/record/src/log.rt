@@ -4,7 +4,7 @@ use frames::{MessageNumber, RingNumber};
 
 // A message stands at the place that its number fixes: the number modulo MOST_HELD. A place is in
 // use where its sender is not 0. Contents stand 64 bytes apart, zero past their lengths.
-#[derive(Drop)]
+#[derive(Clone, Copy)]
 pub struct Held {
     pub senders: [u16; size::MOST_HELD],
     pub services: [u16; size::MOST_HELD],
@@ -12,7 +12,7 @@ pub struct Held {
     pub contents: [u8; size::HELD_CONTENTS],
 }
 
-#[derive(Drop)]
+#[derive(Clone, Copy)]
 pub struct Log {
     pub ring: RingNumber,
     // The members are the first `count` places, in circulation order; the others are 0.

@@ -9,7 +9,7 @@ ghost use Rattle.record.specs.Posts.{queued, taken};
 use crate::head::PostsHead;
 use crate::size;
 
-#[derive(Drop)]
+#[derive(Clone, Copy)]
 pub struct Posts {
     pub count: u8,
     pub services: [u16; size::MOST_POSTS],

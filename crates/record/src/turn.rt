@@ -2,7 +2,7 @@
 use frames::{MessageNumber, TokenNumber};
 
 // The small numbers stand last: no array begins at an odd byte.
-#[derive(Drop)]
+#[derive(Clone, Copy)]
 pub struct Turn {
     // The aru of the token forwarded last, and of the one before.
     pub aru: MessageNumber,

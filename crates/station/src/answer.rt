@@ -5,7 +5,7 @@ ghost use Rattle.station.specs.Answer.{happened, outcome_of, is_taken};
 use crate::refusal;
 use crate::refusal::Refusal;
 
-#[derive(Drop)]
+#[derive(Clone, Copy)]
 pub enum Answer {
     Refused(Refusal),
     // The ring's first token is written out.
@@ -28,7 +28,7 @@ pub enum Answer {
 
 // The answer in numbers, as hosts in C get it.
 #[repr(C)]
-#[derive(Drop)]
+#[derive(Clone, Copy)]
 pub struct Outcome {
     // The question that was answered 'no', or 0.
     pub refusal: u16,

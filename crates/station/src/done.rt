@@ -7,7 +7,7 @@ use crate::answer;
 use crate::answer::Answer;
 use record::Record;
 
-#[derive(Drop)]
+#[derive(Clone, Copy)]
 pub struct Done {
     pub answer: Answer,
     pub rec: Record,

@@ -20,7 +20,7 @@ use record::{Head, LogHead};
 
 // The head of what is held now, the requests that stay, how many messages are new, how many are broadcast in
 // all, and the size of the repeats' frames.
-#[derive(Drop)]
+#[derive(Clone, Copy)]
 pub struct Sent {
     pub log: LogHead,
     pub rest: Requests,

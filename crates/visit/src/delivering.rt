@@ -42,7 +42,7 @@ fn due_count(l: LogHead, safe: MessageNumber) -> u32
 }
 
 // How many were delivered, and the size of their frames.
-#[derive(Drop)]
+#[derive(Clone, Copy)]
 pub struct Handed {
     pub count: u32,
     pub size: usize,

@@ -14,7 +14,7 @@ use record::{Head, Turn};
 
 // What the station keeps until the token's next visit, the token in it; the new safe mark; the id in the
 // notice 'deaf', or 0.
-#[derive(Drop)]
+#[derive(Clone, Copy)]
 pub struct Forwarded {
     pub turn: Turn,
     pub safe: MessageNumber,

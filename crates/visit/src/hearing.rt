@@ -19,7 +19,7 @@ use frames::{Message, MessageNumber};
 use record::{Head, LogHead, Turn};
 
 // What became of a message.
-#[derive(Drop)]
+#[derive(Clone, Copy)]
 pub enum Hearing {
     WasHad,
     IsAhead,
@@ -27,7 +27,7 @@ pub enum Hearing {
 }
 
 // And how many bytes are delivered.
-#[derive(Drop)]
+#[derive(Clone, Copy)]
 pub struct Heard {
     pub how: Hearing,
     pub size: u16,

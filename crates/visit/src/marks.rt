@@ -29,7 +29,7 @@ fn is_own(own: u16, b: Blocker) -> bool
 }
 
 // How far everybody has come, as far as the token knows, and who holds it there.
-#[derive(Drop)]
+#[derive(Clone, Copy)]
 pub struct Reach {
     pub aru: MessageNumber,
     pub blocker: Blocker,

@@ -13,14 +13,14 @@ use frames::MessageNumber;
 use record::LogHead;
 
 // Up to 16 message numbers, as a token has them: the first `count` places, the others 0.
-#[derive(Drop)]
+#[derive(Clone, Copy)]
 pub struct Requests {
     pub numbers: [u32; frames::MOST_REQUESTS],
     pub count: u16,
 }
 
 // Requests apart: those whose message is held, and the rest.
-#[derive(Drop)]
+#[derive(Clone, Copy)]
 pub struct Split {
     pub held: Requests,
     pub rest: Requests,

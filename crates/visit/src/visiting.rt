@@ -26,7 +26,7 @@ use frames::{MessageNumber, Token};
 use record::Head;
 
 // How many bytes a visit writes for the cable and delivers, and the id in the notice 'deaf', or 0.
-#[derive(Drop)]
+#[derive(Clone, Copy)]
 pub struct Visited {
     pub frames: u16,
     pub deliveries: u16,

@@ -1,0 +1,5 @@
+use borrow.Author.Rules.{rules}
+use Rattle.frames.proofs.reader.refuse.Goals as goal
+
+pub returns : goal.returns
+returns c = cc

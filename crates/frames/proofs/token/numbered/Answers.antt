@@ -1,0 +1,18 @@
+use Prim.Native.Nat.{◌-◌}
+use native.Mathlib.Omega.{arith}
+use borrow.Author.Rules.{rules}
+use Rattle.frames.specs.Token.{numbered}
+use Rattle.frames.specs.declared.number.MessageNumber.{MessageNumber}
+use Rattle.frames.specs.Layout.{most_requests}
+use Rattle.frames.proofs.NumberedLaws.{Mapping, mapping-starts, mapping-goes, mapping-ends}
+use Rattle.frames.proofs.token.numbered.Goals as goal
+
+pub loop-i-init : goal.loop-i-init
+loop-i-init c = mapping-starts _ _ _ (search rules)
+
+pub loop-i-preserved : goal.loop-i-preserved
+loop-i-preserved c = mapping-goes _ _ _ _ _ c.loop-i.invariant (omega arith)
+
+pub returns : goal.returns
+unfolding numbered
+returns c = mapping-ends _ _ _ _ c.loop-i.invariant (omega arith)
