@@ -11,7 +11,7 @@ use Rattle.frames.proofs.WriteLaws.{put-long, put-short, put-roomless, token-tak
 use Rattle.frames.proofs.writer.put_token.Goals as goal
 use Rattle.frames.proofs.writer.put_token.Goals.{Else-n-gt-MOST_REQUESTS}
 
-few : (c : Else-n-gt-MOST_REQUESTS) → c.before.before.before.before.before.args.t.count ≤ length (request_numbers c.before.before.before.before.before.args.t)
+few : (c : Else-n-gt-MOST_REQUESTS) → c.args.t.count ≤ length (request_numbers c.args.t)
 few c =
     let places : length c.numbers_in-requests.result ≡ most_requests = search rules in
     omega (arith, places, ap length c.numbers_in-requests.ensures, c.if-n-gt-MOST_REQUESTS.false)
