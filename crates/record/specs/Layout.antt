@@ -95,12 +95,12 @@ posts_size = post_contents_at + post_contents
 
 -- ---- the record: own id, the panel's count, log, turn, posts
 
-abbrev pub field_own : ℕ
-field_own = 0
+abbrev pub own_at : ℕ
+own_at = 0
 
 -- what the panel reads; it never moves again
 abbrev pub panel_at : ℕ
-panel_at = field_own + 2
+panel_at = own_at + 2
 
 abbrev pub log_at : ℕ
 log_at = panel_at + 1

@@ -1,0 +1,23 @@
+use native.Mathlib.Omega.{arith}
+use borrow.Author.Rules.{rules}
+use Rattle.record.proofs.Arrays.{HeadArrays}
+use Rattle.record.proofs.PutLaws.{log-stored}
+use Rattle.record.proofs.log_bytes.put_log_head.Goals as goal
+use Rattle.record.proofs.log_bytes.put_log_head.Goals.{Start}
+
+arrays : (c : Start) → HeadArrays c.args.l
+arrays c = search rules
+
+pub put_u16s-requires : goal.put_u16s-requires
+put_u16s-requires c = omega (arith, (arrays (goal.at.put_u16s-requires c).Start).members, c.requires)
+
+pub returns : goal.returns
+returns c =
+    log-stored _ _ _ _ _ _ _ _ _ _ (arrays (goal.at.returns c).Start) c.requires
+    c.put_u32.ensures
+    c.put_u8.ensures
+    c.put_u16s.ensures
+    c.put_u32-2.ensures
+    c.put_u32-3.ensures
+    c.put_u32-4.ensures
+    c.put_places.ensures

@@ -1,0 +1,14 @@
+use Prim.Native.Nat.{◌-◌, ◌≤◌}
+use native.Mathlib.Nat.{zero-add}
+use native.Mathlib.Omega.{arith}
+use borrow.Author.Rules.{rules}
+use Rattle.record.specs.Size.{most_held}
+use Rattle.record.specs.inner.Head.{log_on}
+use Rattle.record.proofs.TallyLaws.{Tallied, tally-starts, tally-goes, tally-ends, one-most, place_undelivered, undelivered-by-place}
+use Rattle.record.proofs.panel.undelivered.Given as goal
+
+abbrev pub invariant-loop-i : goal.invariant-loop-i
+invariant-loop-i l = Tallied (place_undelivered l.senders l.past l.l.safe.0) 0 most_held l.count l.i
+
+abbrev pub decreases-loop-i : goal.decreases-loop-i
+decreases-loop-i l = most_held - l.i

@@ -1,0 +1,7 @@
+use borrow.Author.Rules.{rules}
+use Rattle.record.specs.Whole.{turn_unused_zero}
+use Rattle.record.proofs.unused.turn_unused_zero.Goals as goal
+
+pub returns : goal.returns
+unfolding turn_unused_zero
+returns c = c.zero_from_u8.ensures

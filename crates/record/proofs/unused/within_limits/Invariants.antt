@@ -1,0 +1,13 @@
+use Prim.Native.Nat.{◌-◌}
+use native.Mathlib.Nat.{zero-add}
+use lib.ListN.{get_or}
+use lib.Dec.{leb}
+use borrow.Author.Rules.{rules}
+use Rattle.record.proofs.CountLaws.{Gathered, gathered-starts, gathered-goes, gathered-ends}
+use Rattle.record.proofs.unused.within_limits.Given as goal
+
+abbrev pub invariant-loop-i : goal.invariant-loop-i
+invariant-loop-i l = Gathered (λ k. leb (get_or l.s k 0) (get_or l.limits k 0)) 0 16 l.good l.i
+
+abbrev pub decreases-loop-i : goal.decreases-loop-i
+decreases-loop-i l = 16 - l.i
