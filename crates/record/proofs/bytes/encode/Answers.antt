@@ -10,11 +10,10 @@ use Rattle.record.proofs.bytes.encode.Goals.{Start}
 
 arrays : (c : Start) → RecordArrays c.args.r
 arrays c =
-    let fields = c.well-formed.0.1.1.1.1 in
     record {
-      log = record { members = (let g = fields.0 in search rules); held = (let g = fields.0.1.1.1.1.1.1.1.1.0 in search rules) };
-      token = (let g = fields.1.0.1.1.1.1.1.0 in search rules);
-      posts = (let g = fields.1.1.0 in search rules);
+      log = record { members = search rules; held = search rules };
+      token = search rules;
+      posts = search rules;
     }
 
 pub slice_bounds-put_bytes-end : goal.slice_bounds-put_bytes-end

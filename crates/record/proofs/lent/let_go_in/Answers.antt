@@ -5,5 +5,4 @@ use Rattle.record.proofs.lent.let_go_in.Goals as goal
 pub returns : goal.returns
 returns c =
     let s = c.args.s.now in
-    let left = c.let_go in
-    (rw (contents-put s left.new.1.0 c.requires.0 left.auto.1.0) left.ensures, behind-left s left.new.1.0 c.requires.0 left.auto.1.0)
+    (rw (contents-put s c.let_go.new.contents c.requires.0 c.let_go.auto.contents) c.let_go.ensures, behind-left s c.let_go.new.contents c.requires.0 c.let_go.auto.contents)

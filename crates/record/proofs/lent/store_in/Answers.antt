@@ -5,5 +5,4 @@ use Rattle.record.proofs.lent.store_in.Goals as goal
 pub returns : goal.returns
 returns c =
     let s = c.args.s.now in
-    let left = c.store in
-    (rw (contents-put s left.new.1.0 c.requires.0 left.auto.1.0) left.ensures, behind-left s left.new.1.0 c.requires.0 left.auto.1.0)
+    (rw (contents-put s c.store.new.contents c.requires.0 c.store.auto.contents) c.store.ensures, behind-left s c.store.new.contents c.requires.0 c.store.auto.contents)

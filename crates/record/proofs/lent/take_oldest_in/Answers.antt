@@ -5,5 +5,4 @@ use Rattle.record.proofs.lent.take_oldest_in.Goals as goal
 pub returns : goal.returns
 returns c =
     let s = c.args.s.now in
-    let left = c.take_oldest in
-    (rw (waiting-put s left.new.1.0 c.requires.0 left.auto.1.0) left.ensures, before-left s left.new.1.0 c.requires.0 left.auto.1.0)
+    (rw (waiting-put s c.take_oldest.new.waiting c.requires.0 c.take_oldest.auto.waiting) c.take_oldest.ensures, before-left s c.take_oldest.new.waiting c.requires.0 c.take_oldest.auto.waiting)

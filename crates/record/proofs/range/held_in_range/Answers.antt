@@ -14,5 +14,5 @@ returns c =
     let senders : length c.args.l.senders ≡ most_held = search rules in
     let services : length c.args.l.services ≡ most_held = search rules in
     let lengths : length c.args.l.lengths ≡ most_held = search rules in
-    let fits : (i : ℕ) → Fits w16 (get_or c.args.l.senders i 0) = (λ i. let g = start.well-formed.0.1.1.1.1.1.1 in search rules) in
+    let fits : (i : ℕ) → Fits w16 (get_or c.args.l.senders i 0) = (λ i. search rules) in
     held-tested _ senders services lengths c.requires (λ i. omega (arith, (fits i).fits)) _ _ c.all_within_u16.ensures c.all_within_u8.ensures

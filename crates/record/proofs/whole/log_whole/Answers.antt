@@ -15,8 +15,8 @@ the-log c = log_on c.args.l c.args.contents.now
 pub returns-then-not-log_in_range : goal.returns-then-not-log_in_range
 returns-then-not-log_in_range c = log-refused c.args.own (the-log (goal.at.returns-then-not-log_in_range c).Start) _ c.log_in_range.ensures c.if-not-log_in_range.true-raw
 
-range : (c : Else-not-log_in_range) → LogRange (the-log c.Start)
-range c = log-ranged c.args.own (the-log c.Start) _ c.log_in_range.ensures c.if-not-log_in_range.false-raw
+range : (c : Else-not-log_in_range) → LogRange (log_on c.args.l c.args.contents.now)
+range c = log-ranged c.args.own (log_on c.args.l c.args.contents.now) _ c.log_in_range.ensures c.if-not-log_in_range.false-raw
 
 pub slice_bounds-ids-end : goal.slice_bounds-ids-end
 slice_bounds-ids-end c =
