@@ -5,7 +5,8 @@ use Rattle.text.proofs.put_decimal.Goals as goal
 
 pub returns : goal.returns
 returns c =
-    let made = c.decimal-k.ensures in decimal-put _
+    let made = c.decimal-k.ensures in
+    decimal-put _
     c.decimal-k.result
-    c.args.n _ (omega arith) made.1.0 made.1.1
+    c.args.n _ (omega arith) made.len made.digits
     c.put_bytes.ensures

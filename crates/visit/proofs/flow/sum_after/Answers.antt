@@ -1,0 +1,5 @@
+use borrow.Author.Rules.{rules}
+use Rattle.visit.proofs.flow.sum_after.Goals as goal
+
+pub returns : goal.returns
+returns c = c.smaller.ensures

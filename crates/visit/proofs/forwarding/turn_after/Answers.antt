@@ -1,0 +1,16 @@
+use native.Mathlib.Omega.{arith}
+use borrow.Author.Rules.{rules}
+use Rattle.record.specs.inner.Head.{record_in}
+use Rattle.visit.specs.Visit.{Visit}
+use Rattle.visit.specs.Acceptable.{visit}
+use Rattle.visit.proofs.VisitFacts.{few-left}
+use Rattle.visit.proofs.Forward.{sent-fits, size_fits, turn-made}
+use Rattle.visit.proofs.forwarding.turn_after.Goals as goal
+use Rattle.visit.proofs.forwarding.turn_after.Goals.{Start}
+
+abbrev the-visit : Start → Visit
+the-visit c = visit (record_in c.args.h c.args.s.now) c.args.t
+
+pub returns : goal.returns
+returns c =
+    turn-made (the-visit (goal.at.returns c).Start) c.requires.0 _ c.requires.1 _ _ _ _ _ c.put_token.ensures c.token_size.ensures c.requires.2 c.requires.3 c.requires.4

@@ -1,0 +1,22 @@
+use Prim.Native.Nat.{ℕ, ◌-◌, ◌<◌}
+use mathlib.Core.Path.{refl, sym, ap, ◌∙◌}
+use mathlib.Core.List.{List, []}
+use lib.ListN.{length}
+use mathlib.Core.Logic.{⊎_elim}
+use mathlib.Core.Bool.{not}
+use borrow.Author.Rules.{rules}
+use Rattle.frames.specs.Layout.{most_requests}
+use Rattle.record.specs.inner.Head.{log_on}
+use Rattle.record.specs.Held.{holds}
+use Rattle.visit.specs.inner.Steps.{listed}
+use Rattle.visit.proofs.ListedLaws.{Gathered, gathered_none, gathered-few, gathered-takes, gathered-leaves, gathered-all}
+use Rattle.visit.proofs.requests.split_requests.Given as goal
+
+abbrev pub invariant-loop-i : goal.invariant-loop-i
+invariant-loop-i l =
+    (contents : List ℕ)
+    → Gathered (holds (log_on l.l contents)) l.requests l.i (record { numbers = l.held; count = l.repeats })
+    × Gathered (λ n. not (holds (log_on l.l contents) n)) l.requests l.i (record { numbers = l.rest; count = l.left })
+
+abbrev pub decreases-loop-i : goal.decreases-loop-i
+decreases-loop-i l = length l.requests - l.i
