@@ -1,6 +1,6 @@
 -- The visit whole, as the code makes it: what is sent behind the repeats, and step 9.
 use Prim.Native.Nat.{ℕ, ◌+◌, ◌*◌, ◌<◌, ◌≤◌}
-use mathlib.Core.Path.{◌≡◌, refl, sym, ap, ◌∙◌}
+use mathlib.Core.Path.{◌≡◌, refl, sym, ap, subst, ◌∙◌}
 use mathlib.Core.Bool.{true}
 use mathlib.Core.List.{List, ◌++◌, map, append_assoc}
 use native.Mathlib.Nat.{zero-add}
@@ -90,7 +90,7 @@ module _ (v : Visit) (a : Acceptable v) where
       run-ready long enough =
           rw now-is (
             writable.log,
-            writable.header,
+            subst (λ l. header_follows (ring_header l) ≡ true) (sym now-is) writable.header,
             λ k low high. now-new v a k low (omega (arith, sent-added v a b sends)),
             place-ready.2,
             omega (arith, sent-size, sent-added v a b sends, repeats-short v a),

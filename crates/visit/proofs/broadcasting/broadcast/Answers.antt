@@ -46,3 +46,7 @@ pub returns : goal.returns
 returns c =
     all-sent (the-visit (goal.at.returns c).Start) c.requires.0 _ c.numbers_in-requests.ensures _ (c.split_requests-split.ensures (contents_in c.args.s.now log_at)) _ c.new_count-added.ensures _ c.hold_new.ensures _ c.raise-log.ensures _ _ _
     (rw c.contents_in.ensures at c.put_repeats-size.ensures)
+
+pub overflow_add-result : goal.overflow_add-result
+overflow_add-result c =
+    omega (arith, sent-few (the-visit (goal.at.overflow_add-result c).Start) c.requires.0 _ c.numbers_in-requests.ensures _ (c.split_requests-split.ensures (contents_in c.args.s.now log_at)) _ c.new_count-added.ensures)

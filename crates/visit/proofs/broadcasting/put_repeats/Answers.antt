@@ -15,7 +15,7 @@ lent : (c : Start) → take (c.args.repeats.count - 0) c.args.repeats.numbers �
 lent c = rw sub-zero
 
 long : (c : Start) → length c.args.repeats.numbers ≡ most_requests
-long c = let repeats = c.well-formed.1.1.0 in search rules
+long c = search rules
 
 few : (c : Start) → length (list_in c.args.repeats) ≡ c.args.repeats.count
 few c = length-take-le c.args.repeats.count c.args.repeats.numbers (omega (arith, long c, c.requires.2))

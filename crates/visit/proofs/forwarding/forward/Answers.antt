@@ -46,3 +46,7 @@ pub returns : goal.returns
 returns c =
     forwarded (the-visit (goal.at.returns c).Start) c.requires.0 _ (reaches (goal.at.returns c).Start _ c.reach_after-reach.ensures) _ _ _ _
     c.turn_after-turn.ensures c.safe_after-safe.ensures c.stall_after-stall.ensures c.deaf_after.ensures
+
+pub overflow_add-highest : goal.overflow_add-highest
+overflow_add-highest c =
+    omega (arith, highest-fits (the-visit (goal.at.overflow_add-highest c).Start) c.requires.0 _ c.requires.1)

@@ -45,3 +45,7 @@ returns c =
     c.requires.2
     c.requires.3
     c.numbered-places.ensures
+
+pub overflow_add-result-2 : goal.overflow_add-result-2
+overflow_add-result-2 c =
+    omega (arith, highest-fits (the-visit (goal.at.overflow_add-result-2 c).Start) c.requires.0 _ c.requires.1)

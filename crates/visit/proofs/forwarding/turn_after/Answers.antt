@@ -14,3 +14,15 @@ the-visit c = visit (record_in c.args.h c.args.s.now) c.args.t
 pub returns : goal.returns
 returns c =
     turn-made (the-visit (goal.at.returns c).Start) c.requires.0 _ c.requires.1 _ _ _ _ _ c.put_token.ensures c.token_size.ensures c.requires.2 c.requires.3 c.requires.4
+
+pub overflow_cast-result : goal.overflow_cast-result
+overflow_cast-result c =
+    omega (arith, sent-fits (the-visit (goal.at.overflow_cast-result c).Start) c.requires.0 _ c.requires.2)
+
+pub overflow_cast-result-2 : goal.overflow_cast-result-2
+overflow_cast-result-2 c =
+    omega (arith, few-left (the-visit (goal.at.overflow_cast-result-2 c).Start) c.requires.0, c.requires.4)
+
+pub overflow_cast-result-3 : goal.overflow_cast-result-3
+overflow_cast-result-3 c =
+    omega (arith, size_fits (the-visit (goal.at.overflow_cast-result-3 c).Start) c.requires.0 _ c.requires.1 _ c.token_size.ensures)

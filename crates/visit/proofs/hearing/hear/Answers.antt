@@ -60,7 +60,7 @@ keep-kept-requires c =
 -- the log once the message is kept
 kept : (c : After-keep-kept) → Writable (log_on c.keep-kept.result (contents_in c.keep-kept.new.s log_at))
 kept c =
-    kept-writable (the-record c.Start) c.args.m c.args.content.now c.requires.0 _
+    kept-writable (record_in c.args.h c.args.s.now) c.args.m c.args.content.now c.requires.0 _
     (sym (c.is_had.ensures _) ∙ c.if-is_had.false)
     (sym (c.is_ahead.ensures (contents_in c.args.s.now log_at)) ∙ c.if-is_ahead.false)
     c.keep-kept.ensures.0

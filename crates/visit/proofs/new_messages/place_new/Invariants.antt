@@ -17,7 +17,7 @@ abbrev pub invariant-loop-i : goal.invariant-loop-i
 invariant-loop-i l =
     (length l.s ≡ record_size)
     × (drop turn_at l.s ≡ drop turn_at l.initial.s)
-    × ((l : LogHead) (own : ℕ) (services : List ℕ) → Placing l own l.highest.0 (posts_in l.n services l.lengths (waiting_in l.initial.s posts_at)) l.n (contents_in l.initial.s log_at) (contents_in l.s log_at) l.i)
+    × ((h : LogHead) (own : ℕ) (services : List ℕ) → Placing h own l.highest.0 (posts_in l.n services l.lengths (waiting_in l.initial.s posts_at)) l.n (contents_in l.initial.s log_at) (contents_in l.s log_at) l.i)
 
 abbrev pub decreases-loop-i : goal.decreases-loop-i
 decreases-loop-i l = l.n - l.i

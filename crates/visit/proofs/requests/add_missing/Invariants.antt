@@ -17,7 +17,7 @@ abbrev pub invariant-loop-last : goal.invariant-loop-last
 invariant-loop-last l =
     (l.size ≤ most_requests)
     × (l.count ≤ most_requests)
-    × ((contents : List ℕ) → Adding (λ n. not (holds (log_on l.l contents) n) && lacks (take l.size l.rest) n) (take l.size l.rest) l.initial.last l.top.0 (record { l.numbers = l.numbers; l.count = l.count }) l.last)
+    × ((contents : List ℕ) → Adding (λ n. not (holds (log_on l.l contents) n) && lacks (take l.size l.rest) n) (take l.size l.rest) l.initial.last l.top.0 (record { numbers = l.numbers; count = l.count }) l.last)
 
 abbrev pub decreases-loop-last : goal.decreases-loop-last
 decreases-loop-last l = l.top.0 - l.last

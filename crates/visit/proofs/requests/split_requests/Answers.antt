@@ -11,7 +11,7 @@ use Rattle.record.specs.Held.{holds}
 use Rattle.visit.specs.inner.Steps.{listed}
 use Rattle.visit.proofs.ListedLaws.{Gathered, gathered_none, gathered-few, gathered-takes, gathered-leaves, gathered-all}
 use Rattle.visit.proofs.requests.split_requests.Goals as goal
-use Rattle.visit.proofs.requests.split_requests.Goals.{After-is_held}
+use Rattle.visit.proofs.requests.split_requests.Goals.{After-is_held, then-is_held, else-is_held}
 
 pub loop-i-init : goal.loop-i-init
 unfolding listed
@@ -47,16 +47,16 @@ loop-i-preserved c = λ contents.
     let more = c.loop-i-test.true in
     let few = c.requires.1 in
     let known = sym c.is_held.ensures in
-    ⊎_elim
-    (λ w. (
-      gathered-takes _ _ _ _ at.0 more few (known ∙ w.0.taken) (rw (w.1, w.3)),
-      gathered-leaves _ _ _ _ at.1 more few (ap not (known ∙ w.0.taken)) (rw (w.2, w.4)),
-    ))
-    (λ w. (
-      gathered-leaves _ _ _ _ at.0 more few (known ∙ w.0.left) (rw (w.1, w.3)),
-      gathered-takes _ _ _ _ at.1 more few (ap not (known ∙ w.0.left)) (rw (w.2, w.4)),
-    ))
-    c.if-is_held.branch
+    elim c.if-is_held.branch [
+      then-is_held w ↦ (
+        gathered-takes _ _ _ _ at.0 more few (known ∙ w.if-is_held.true) (rw (w.held-is, w.repeats-is)),
+        gathered-leaves _ _ _ _ at.1 more few (ap not (known ∙ w.if-is_held.true)) (rw (w.rest-is, w.left-is)),
+      )
+      | else-is_held w ↦ (
+        gathered-leaves _ _ _ _ at.0 more few (known ∙ w.if-is_held.false) (rw (w.held-is, w.repeats-is)),
+        gathered-takes _ _ _ _ at.1 more few (ap not (known ∙ w.if-is_held.false)) (rw (w.rest-is, w.left-is)),
+      )
+    ]
 
 pub returns : goal.returns
 returns c = λ contents. rw (gathered-all _ _ _ _ (c.loop-i.invariant contents).0 c.loop-i-test.false, gathered-all _ _ _ _ (c.loop-i.invariant contents).1 c.loop-i-test.false)

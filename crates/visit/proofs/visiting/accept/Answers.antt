@@ -42,3 +42,15 @@ returns c =
       all-written v a _ sends.0 _ _ _ c.requires.2 sends.1 new_numbers.3,
       hands_out v a _ sends.0 _ forwards _ new_numbers.1 _ _ leaves.2,
     )
+
+pub overflow_cast-b : goal.overflow_cast-b
+overflow_cast-b c =
+    omega (arith, added-fits (the-visit (goal.at.overflow_cast-b c).Start) c.requires.0 _ c.broadcast-b.ensures.0)
+
+pub overflow_cast-result : goal.overflow_cast-result
+overflow_cast-result c =
+    omega (arith, c.send_new-written.ensures.0, written-fits (the-visit (goal.at.overflow_cast-result c).Start) c.requires.0)
+
+pub overflow_cast-result-2 : goal.overflow_cast-result-2
+overflow_cast-result-2 c =
+    omega (arith, size_fits (the-visit (goal.at.overflow_cast-result-2 c).Start) c.requires.0 _ c.broadcast-b.ensures.0 _ c.forward-f.ensures _ c.send_new-written.ensures.1 _ (rw c.with_parts-left.ensures at c.finish-handed.ensures.0))

@@ -33,3 +33,8 @@ returns c =
       stored-left c.args.h c.args.s.now c.let_go_in-log.new.s c.take_oldest_in-posts.new.s _ _ _ _ _ _ long hands.0 c.let_go_in-log.ensures c.take_oldest_in-posts.ensures (rw c.with_parts-left.ensures at c.put_head.ensures),
       hands.2,
     )
+
+pub overflow_add-mark : goal.overflow_add-mark
+overflow_add-mark c =
+    let hands = rw c.contents_in.ensures at c.hand_out-handed.ensures in
+    omega (arith, (due-fits (record_in c.args.h c.args.s.now).log _ _ hands.0 c.requires.1).most)

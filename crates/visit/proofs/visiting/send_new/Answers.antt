@@ -26,8 +26,8 @@ pub contents_in-requires : goal.contents_in-requires
 contents_in-requires c = omega (arith, c.place_new.auto.s, c.requires.3)
 
 -- the log that is held once the contents have moved
-moved : (c : After-place_new) → log_on c.args.b.log (contents_in c.place_new.new.s log_at) ≡ log_now (the-visit c.Start)
-moved c = placed (the-visit c.Start) c.requires.0 _ c.requires.1 _ c.place_new.ensures.0
+moved : (c : After-place_new) → log_on c.args.b.log (contents_in c.place_new.new.s log_at) ≡ log_now (visit (record_in c.args.h c.args.s.now) c.args.t)
+moved c = placed (visit (record_in c.args.h c.args.s.now) c.args.t) c.requires.0 _ c.requires.1 _ c.place_new.ensures.0
 
 pub put_run-at-requires : goal.put_run-at-requires
 put_run-at-requires c =
@@ -35,7 +35,7 @@ put_run-at-requires c =
 
 room : (c : After-put_run-at) → c.put_run-at.result + longest_token ≤ length c.put_run-at.new.out
 room c =
-    token-room (the-visit c.Start) c.requires.0 _ c.requires.1 _ (moved c.After-place_new) _ _ _ (rw c.contents_in.ensures at c.put_run-at.ensures) c.requires.4
+    token-room (visit (record_in c.args.h c.args.s.now) c.args.t) c.requires.0 _ c.requires.1 _ (placed (visit (record_in c.args.h c.args.s.now) c.args.t) c.requires.0 _ c.requires.1 _ c.place_new.ensures.0) _ _ _ (rw c.contents_in.ensures at c.put_run-at.ensures) c.requires.4
 
 pub slice_bounds-put_remembered-start : goal.slice_bounds-put_remembered-start
 slice_bounds-put_remembered-start c = omega (arith, room (goal.at.slice_bounds-put_remembered-start c).After-put_run-at)
@@ -62,3 +62,6 @@ returns c =
       all-behind v c.requires.0 _ c.requires.1 _ (moved (goal.at.returns c).After-place_new) _ _ _ puts _ c.requires.2 _
           (part-put (remembered c.args.f.turn) _ _ _ (remembered-room v c.requires.0 _ c.requires.1 _ (moved (goal.at.returns c).After-place_new) _ _ _ puts _ c.requires.2 c.requires.4) c.put_remembered.ensures),
     )
+
+pub slice_bounds-put_remembered-count : goal.slice_bounds-put_remembered-count
+slice_bounds-put_remembered-count c = omega (arith, room (goal.at.slice_bounds-put_remembered-count c).After-put_run-at)
