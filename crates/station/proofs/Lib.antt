@@ -1,5 +1,4 @@
 pub mod AcceptanceTrials
-pub mod Accessors
 pub mod RefusalLaws
 pub mod OutcomeLaws
 pub mod ReplyLaws

@@ -1,0 +1,5 @@
+use borrow.Author.Rules.{rules}
+use Rattle.station.proofs.answer.is_taken.Goals as goal
+
+pub returns : goal.returns
+returns c = cc
