@@ -22,35 +22,28 @@ returns-then-not-this_ring c =
     refuses _ (the-record (goal.at.returns-then-not-this_ring c).Start) _ c.args.s.now _ _
     (message-other-ring (the-record (goal.at.returns-then-not-this_ring c).Start) c.args.m _ (ring-asked (the-record (goal.at.returns-then-not-this_ring c).Start) _ _ c.args.m.header c.this_ring.ensures (not-true _ c.if-not-this_ring.true-raw)))
 
--- past 13
-abbrev start : Else-not-this_ring → Start
-start c = c
-
-this : (c : Else-not-this_ring) → this_ring (the-record (start c)).log.ring.0 (ids (the-record (start c)).log) (start c).args.m.header ≡ true
-this c = ring-asked (the-record (start c)) _ _ (start c).args.m.header c.this_ring.ensures (not-false _ c.if-not-this_ring.false-raw)
+this : (c : Else-not-this_ring) → this_ring (record_in c.args.h c.args.s.now).log.ring.0 (ids (record_in c.args.h c.args.s.now).log) c.args.m.header ≡ true
+this c = ring-asked (record_in c.args.h c.args.s.now) _ _ c.args.m.header c.this_ring.ensures (not-false _ c.if-not-this_ring.false-raw)
 
 pub returns-then-not-is_member : goal.returns-then-not-is_member
 returns-then-not-is_member c =
-    let begun = start (goal.at.returns-then-not-is_member c).Else-not-this_ring in
-    refuses _ (the-record begun) _ begun.args.s.now _ _
-    (message-not-member (the-record begun) begun.args.m _ (this (goal.at.returns-then-not-is_member c).Else-not-this_ring) (sender-asked (the-record begun) _ _ begun.args.m.sender c.is_member.ensures (not-true _ c.if-not-is_member.true-raw)))
+    refuses _ (the-record (goal.at.returns-then-not-is_member c).Start) _ c.args.s.now _ _
+    (message-not-member (the-record (goal.at.returns-then-not-is_member c).Start) c.args.m _ (this (goal.at.returns-then-not-is_member c).Else-not-this_ring) (sender-asked (the-record (goal.at.returns-then-not-is_member c).Start) _ _ c.args.m.sender c.is_member.ensures (not-true _ c.if-not-is_member.true-raw)))
 
 pub hear-heard-requires : goal.hear-heard-requires
-hear-heard-requires c =
-    let begun = start (goal.at.hear-heard-requires c).Else-not-this_ring in (
+hear-heard-requires c = (
       record {
-        whole_record = begun.pre.0.whole_record;
-        follows = begun.pre.1;
+        whole_record = c.requires.0.whole_record;
+        follows = c.requires.1;
         this-ring = this (goal.at.hear-heard-requires c).Else-not-this_ring;
-        member = sender-asked (the-record begun) _ _ begun.args.m.sender c.is_member.ensures (not-false _ c.if-not-is_member.false-raw);
+        member = sender-asked (the-record (goal.at.hear-heard-requires c).Start) _ _ c.args.m.sender c.is_member.ensures (not-false _ c.if-not-is_member.false-raw);
       },
-      begun.pre.0.size,
-      begun.pre.2,
+      c.requires.0.size,
+      c.requires.2,
     )
 
 pub returns : goal.returns
 returns c =
-    let begun = start (goal.at.returns c).Else-not-this_ring in
     known _ _ _ _ _ _ _ _ _
-    (message-passes (the-record begun) begun.args.m _ (this (goal.at.returns c).Else-not-this_ring) (sender-asked (the-record begun) _ _ begun.args.m.sender c.is_member.ensures (not-false _ c.if-not-is_member.false-raw)))
-    (heard-does (the-record begun) begun.args.m _ _ _ begun.args.s.now _ _ _ begun.pre.0.size c.hear-heard.ensures c.heard_answer.ensures)
+    (message-passes (the-record (goal.at.returns c).Start) c.args.m _ (this (goal.at.returns c).Else-not-this_ring) (sender-asked (the-record (goal.at.returns c).Start) _ _ c.args.m.sender c.is_member.ensures (not-false _ c.if-not-is_member.false-raw)))
+    (heard-does (the-record (goal.at.returns c).Start) c.args.m _ _ _ c.args.s.now _ _ _ c.requires.0.size c.hear-heard.ensures c.heard_answer.ensures)

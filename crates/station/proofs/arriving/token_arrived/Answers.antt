@@ -24,61 +24,47 @@ returns-then-not-this_ring c =
     refuses _ (the-record (goal.at.returns-then-not-this_ring c).Start) _ c.args.s.now _ _
     (token-other-ring (the-record (goal.at.returns-then-not-this_ring c).Start) c.args.t (ring-asked (the-record (goal.at.returns-then-not-this_ring c).Start) _ _ c.args.t.header c.this_ring.ensures (not-true _ c.if-not-this_ring.true-raw)))
 
--- past 13
-abbrev start : Else-not-this_ring → Start
-start c = c
-
-this : (c : Else-not-this_ring) → this_ring (the-record (start c)).log.ring.0 (ids (the-record (start c)).log) (start c).args.t.header ≡ true
-this c = ring-asked (the-record (start c)) _ _ (start c).args.t.header c.this_ring.ensures (not-false _ c.if-not-this_ring.false-raw)
+this : (c : Else-not-this_ring) → this_ring (record_in c.args.h c.args.s.now).log.ring.0 (ids (record_in c.args.h c.args.s.now).log) c.args.t.header ≡ true
+this c = ring-asked (record_in c.args.h c.args.s.now) _ _ c.args.t.header c.this_ring.ensures (not-false _ c.if-not-this_ring.false-raw)
 
 pub returns-then-not-token_members : goal.returns-then-not-token_members
 returns-then-not-token_members c =
-    let begun = start (goal.at.returns-then-not-token_members c).Else-not-this_ring in
-    refuses _ (the-record begun) _ begun.args.s.now _ _
-    (token-not-member (the-record begun) begun.args.t (this (goal.at.returns-then-not-token_members c).Else-not-this_ring) (members-asked (the-record begun) _ _ begun.args.t c.token_members.ensures (not-true _ c.if-not-token_members.true-raw)))
+    refuses _ (the-record (goal.at.returns-then-not-token_members c).Start) _ c.args.s.now _ _
+    (token-not-member (the-record (goal.at.returns-then-not-token_members c).Start) c.args.t (this (goal.at.returns-then-not-token_members c).Else-not-this_ring) (members-asked (the-record (goal.at.returns-then-not-token_members c).Start) _ _ c.args.t c.token_members.ensures (not-true _ c.if-not-token_members.true-raw)))
 
 -- past 14
-members : (c : Else-not-token_members) → token_members (ids (the-record (start c.Else-not-this_ring)).log) (start c.Else-not-this_ring).args.t ≡ true
-members c = let begun = start c.Else-not-this_ring in members-asked (the-record begun) _ _ begun.args.t c.token_members.ensures (not-false _ c.if-not-token_members.false-raw)
+members : (c : Else-not-token_members) → token_members (ids (record_in c.args.h c.args.s.now).log) c.args.t ≡ true
+members c = members-asked (record_in c.args.h c.args.s.now) _ _ c.args.t c.token_members.ensures (not-false _ c.if-not-token_members.false-raw)
 
 pub returns-then-t-h : goal.returns-then-t-h
 returns-then-t-h c =
-    let begun = start (goal.at.returns-then-t-h c).Else-not-this_ring in
-    refuses _ (the-record begun) _ begun.args.s.now _ _
-    (token-elsewhere (the-record begun) _ (this (goal.at.returns-then-t-h c).Else-not-this_ring) (members (goal.at.returns-then-t-h c).Else-not-token_members) c.if-t-h.true)
+    refuses _ (the-record (goal.at.returns-then-t-h c).Start) _ c.args.s.now _ _
+    (token-elsewhere (the-record (goal.at.returns-then-t-h c).Start) _ (this (goal.at.returns-then-t-h c).Else-not-this_ring) (members (goal.at.returns-then-t-h c).Else-not-token_members) c.if-t-h.true)
 
 pub returns-then-t-h-2 : goal.returns-then-t-h-2
 returns-then-t-h-2 c =
-    let begun = start (goal.at.returns-then-t-h-2 c).Else-not-this_ring in
-    refuses _ (the-record begun) _ begun.args.s.now _ _
-    (token-old (the-record begun) begun.args.t (this (goal.at.returns-then-t-h-2 c).Else-not-this_ring) (members (goal.at.returns-then-t-h-2 c).Else-not-token_members) c.if-t-h.false c.if-t-h-2.true)
+    refuses _ (the-record (goal.at.returns-then-t-h-2 c).Start) _ c.args.s.now _ _
+    (token-old (the-record (goal.at.returns-then-t-h-2 c).Start) c.args.t (this (goal.at.returns-then-t-h-2 c).Else-not-this_ring) (members (goal.at.returns-then-t-h-2 c).Else-not-token_members) c.if-t-h.false c.if-t-h-2.true)
 
 pub returns-then-t-ge-MOST_NUMBER : goal.returns-then-t-ge-MOST_NUMBER
 returns-then-t-ge-MOST_NUMBER c =
-    let begun = start (goal.at.returns-then-t-ge-MOST_NUMBER c).Else-not-this_ring in
-    refuses _ (the-record begun) _ begun.args.s.now _ _
-    (token-last (the-record begun) _ (this (goal.at.returns-then-t-ge-MOST_NUMBER c).Else-not-this_ring) (members (goal.at.returns-then-t-ge-MOST_NUMBER c).Else-not-token_members) c.if-t-h.false c.if-t-h-2.false c.if-t-ge-MOST_NUMBER.true)
+    refuses _ (the-record (goal.at.returns-then-t-ge-MOST_NUMBER c).Start) _ c.args.s.now _ _
+    (token-last (the-record (goal.at.returns-then-t-ge-MOST_NUMBER c).Start) _ (this (goal.at.returns-then-t-ge-MOST_NUMBER c).Else-not-this_ring) (members (goal.at.returns-then-t-ge-MOST_NUMBER c).Else-not-token_members) c.if-t-h.false c.if-t-h-2.false c.if-t-ge-MOST_NUMBER.true)
 
 pub returns-then-not-covers_held : goal.returns-then-not-covers_held
 returns-then-not-covers_held c =
-    let begun = start (goal.at.returns-then-not-covers_held c).Else-not-this_ring in
-    refuses _ (the-record begun) _ begun.args.s.now _ _
-    (token-below (the-record begun) begun.args.t (this (goal.at.returns-then-not-covers_held c).Else-not-this_ring) (members (goal.at.returns-then-not-covers_held c).Else-not-token_members) c.if-t-h.false c.if-t-h-2.false c.if-t-ge-MOST_NUMBER.false
-    (sym (c.covers_held.ensures (contents_in begun.args.s.now log_at)) ∙ not-true _ c.if-not-covers_held.true-raw))
+    refuses _ (the-record (goal.at.returns-then-not-covers_held c).Start) _ c.args.s.now _ _
+    (token-below (the-record (goal.at.returns-then-not-covers_held c).Start) c.args.t (this (goal.at.returns-then-not-covers_held c).Else-not-this_ring) (members (goal.at.returns-then-not-covers_held c).Else-not-token_members) c.if-t-h.false c.if-t-h-2.false c.if-t-ge-MOST_NUMBER.false
+    (sym (c.covers_held.ensures (contents_in c.args.s.now log_at)) ∙ not-true _ c.if-not-covers_held.true-raw))
 
--- past 18
-abbrev visited : Else-not-covers_held → Start
-visited c = start c.Else-not-this_ring
-
-covers : (c : Else-not-covers_held) → covers_held (the-record (visited c)).log (visited c).args.t.highest.0 ≡ true
-covers c = sym (c.covers_held.ensures (contents_in (visited c).args.s.now log_at)) ∙ not-false _ c.if-not-covers_held.false-raw
+covers : (c : Else-not-covers_held) → covers_held (record_in c.args.h c.args.s.now).log c.args.t.highest.0 ≡ true
+covers c = sym (c.covers_held.ensures (contents_in c.args.s.now log_at)) ∙ not-false _ c.if-not-covers_held.false-raw
 
 pub accept-visited-requires : goal.accept-visited-requires
-accept-visited-requires c =
-    let begun = visited (goal.at.accept-visited-requires c).Else-not-covers_held in (
+accept-visited-requires c = (
       record {
-        whole_record = begun.pre.0.whole_record;
-        follows = begun.pre.1;
+        whole_record = c.requires.0.whole_record;
+        follows = c.requires.1;
         this-ring = this (goal.at.accept-visited-requires c).Else-not-this_ring;
         members = members (goal.at.accept-visited-requires c).Else-not-token_members;
         here = c.if-t-h.false;
@@ -86,14 +72,13 @@ accept-visited-requires c =
         not_last = c.if-t-ge-MOST_NUMBER.false;
         covers = covers (goal.at.accept-visited-requires c).Else-not-covers_held;
       },
-      begun.pre.0.size,
-      begun.pre.2,
-      begun.pre.3,
+      c.requires.0.size,
+      c.requires.2,
+      c.requires.3,
     )
 
 pub returns : goal.returns
 returns c =
-    let begun = visited (goal.at.returns c).Else-not-covers_held in
     known _ _ _ _ _ _ _ _ _
-    (token-passes (the-record begun) _ (this (goal.at.returns c).Else-not-this_ring) (members (goal.at.returns c).Else-not-token_members) c.if-t-h.false c.if-t-h-2.false c.if-t-ge-MOST_NUMBER.false (covers (goal.at.returns c).Else-not-covers_held))
-    (accepted-does _ _ begun.args.s.now _ _ _ _ _ begun.pre.0.size c.accept-visited.ensures)
+    (token-passes (the-record (goal.at.returns c).Start) _ (this (goal.at.returns c).Else-not-this_ring) (members (goal.at.returns c).Else-not-token_members) c.if-t-h.false c.if-t-h-2.false c.if-t-ge-MOST_NUMBER.false (covers (goal.at.returns c).Else-not-covers_held))
+    (accepted-does _ _ c.args.s.now _ _ _ _ _ c.requires.0.size c.accept-visited.ensures)

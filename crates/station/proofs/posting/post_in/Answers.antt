@@ -34,4 +34,4 @@ pub put_post-requires : goal.put_post-requires
 put_post-requires c = (whole_long _ (sym c.is_whole_in.ensures ∙ not-false _ c.if-not-is_whole_in.false-raw), omega (arith, c.post_count.ensures, c.if-post_count-ge-MOST_POSTS.false), c.if-content-gt-MOST_CONTENT.false)
 
 pub returns : goal.returns
-returns c = over-posted c.args.s.now _ _ (sym c.is_whole_in.ensures ∙ not-false _ c.if-not-is_whole_in.false-raw) c.if-content-gt-MOST_CONTENT.false c.if-service-gt-MOST_SERVICE.false _ c.post_count.ensures _ c.if-post_count-ge-MOST_POSTS.false c.before.before.Put-post.ensures
+returns c = over-posted c.args.s.now _ _ (sym c.is_whole_in.ensures ∙ not-false _ c.if-not-is_whole_in.false-raw) c.if-content-gt-MOST_CONTENT.false c.if-service-gt-MOST_SERVICE.false _ c.post_count.ensures _ c.if-post_count-ge-MOST_POSTS.false c.before.before.put_post.ensures
