@@ -1,5 +1,5 @@
-// The calls for hosts in C: thin functions on numbers and byte slices (a pointer and a length each), the station's
-// calls in lent bytes with their answer in document 01's numbers. include/totem.h declares and documents them.
+// The calls for hosts in C: thin functions on numbers and byte slices, the station's calls in lent bytes with their
+// answer in document 01's numbers. totem_c exports them.
 #![tactic(auto)]
 
 ghost use Rattle.std.specs.Prelude.{[], length};
@@ -11,8 +11,7 @@ use frames::RingNumber;
 use station::Outcome;
 
 // Founding. Ruled out: a record written with a refusal; an odd list read as a shorter one.
-#[unsafe(no_mangle)]
-pub extern "C" fn totem_found(
+pub fn totem_found(
     bytes: &mut [u8],
     members: &[u8],
     own: u16,
@@ -27,8 +26,7 @@ pub extern "C" fn totem_found(
 }
 
 // Posting. Ruled out: 9 with an empty queue; a record of another length taken.
-#[unsafe(no_mangle)]
-pub extern "C" fn totem_post(bytes: &mut [u8], service: u16, content: &[u8]) -> Outcome
+pub fn totem_post(bytes: &mut [u8], service: u16, content: &[u8]) -> Outcome
     ensures { Does outcome_of (post_over bytes.old service content.now) result
         bytes.old bytes.new [] [] [] [] }
 {
@@ -37,8 +35,7 @@ pub extern "C" fn totem_post(bytes: &mut [u8], service: u16, content: &[u8]) -> 
 }
 
 // Arrival. Ruled out: every message 'ahead'; a record written with a refusal.
-#[unsafe(no_mangle)]
-pub extern "C" fn totem_arrive(
+pub fn totem_arrive(
     bytes: &mut [u8],
     frame: &[u8],
     frames: &mut [u8],
@@ -54,8 +51,7 @@ pub extern "C" fn totem_arrive(
 }
 
 // Resending. Ruled out: another token written; 2 where the buffer is too small already.
-#[unsafe(no_mangle)]
-pub extern "C" fn totem_resend(bytes: &[u8], frames: &mut [u8]) -> Outcome
+pub fn totem_resend(bytes: &[u8], frames: &mut [u8]) -> Outcome
     ensures { Does outcome_of (resend_over bytes.now (length frames.old)) result
         bytes.now bytes.now frames.old frames.new [] [] }
 {
