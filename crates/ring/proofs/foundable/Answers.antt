@@ -1,4 +1,3 @@
-use borrow.Author.Rules.{rules}
 use Rattle.ring.specs.Run.{ring_foundable}
 use Rattle.ring.proofs.runs.Promise.{promised-when}
 use Rattle.ring.proofs.foundable.Goals as goal

@@ -16,7 +16,7 @@ use Rattle.record.specs.declared.Record.{Record}
 use Rattle.record.proofs.LentLaws.{lent_of}
 use Rattle.record.proofs.RoundTrip.{record-restored}
 use Rattle.station.specs.Reply.{Reply}
-use Rattle.station.specs.Over.{ids_in, found_over, found_in}
+use Rattle.station.specs.Over.{ids_in, found_in}
 use Rattle.station.specs.Reply.{station_after}
 use Rattle.ring.specs.Calls.{Call}
 use Rattle.ring.specs.Run.{founded_at, records, Account}

@@ -4,11 +4,10 @@ use mathlib.Core.Path.{◌≡◌, refl, sym, ◌∙◌}
 use mathlib.Core.Bool.{true}
 use mathlib.Core.List.{List}
 use native.Mathlib.Omega.{arith}
-use lib.ListN.{length, get_or}
+use lib.ListN.{length}
 use Rattle.words.specs.Word.{word_at}
 use Rattle.words.proofs.WordLaws.{byte_at}
 use Rattle.record.specs.Layout.{record_size, panel_at}
-use Rattle.record.specs.Panel.{undelivered}
 use Rattle.record.specs.Bytes.{record_of}
 use Rattle.record.specs.Lent.{lent, bytes_whole}
 use Rattle.record.proofs.LentLaws.{lent_of}

@@ -20,7 +20,7 @@ use Rattle.ring.specs.Calls.{Call, station_of, reply_to}
 use Rattle.ring.specs.History.{Event, Written, written_in, is_numbered, reading, is_safe, Received, delivery_list, handed_by, deliveries, DeliveredAt}
 use Rattle.record.specs.declared.Record.{Record}
 use Rattle.ring.specs.Run.{Ring, records, start, first_frame, ring_of, run, Account, account_of, structs}
-use Rattle.ring.specs.Demand.{CanAfter, OneOrder, SafeFirst, Delivered, WholeRun, AcceptedIn, Round}
+use Rattle.ring.specs.Demand.{CanAfter, OneOrder, SafeFirst, Delivered, WholeRun, Round}
 use Rattle.ring.proofs.runs.Going.{Possible, AcceptedIn as Accepts}
 use Rattle.ring.proofs.seen.Law.{Rewrites, Law}
 use Rattle.ring.proofs.seen.View.{message_in, station_seen, event_seen}

@@ -18,7 +18,7 @@ use Rattle.ordering.specs.inner.Station.{Station, Store}
 use Rattle.ordering.specs.inner.History as cable
 use Rattle.ordering.specs.inner.Run as ordered
 use Rattle.ring.specs.Calls.{Call, station_of, reply_to}
-use Rattle.ring.specs.History.{Event, any_of, accepts_token, is_accepted, handed_over, said_kept}
+use Rattle.ring.specs.History.{any_of, accepts_token, is_accepted, handed_over, said_kept}
 use Rattle.ring.proofs.seen.View.{station_seen, event_seen, message_in, kept_by}
 use Rattle.ring.proofs.seen.Law.{Rewrites, SeenAs}
 

@@ -22,7 +22,7 @@ use Rattle.visit.proofs.VisitReads.{visit-reads}
 use Rattle.ordering.specs.inner.History as cable
 use Rattle.ordering.specs.inner.Visit as visit
 use Rattle.ordering.specs.inner.Run as ordered
-use Rattle.ring.specs.Calls.{Call, arrival, reply_to}
+use Rattle.ring.specs.Calls.{arrival, reply_to}
 use Rattle.ring.specs.History as called
 use Rattle.ring.specs.History.{is_token_numbered, any_of, accepts_token}
 use Rattle.ring.specs.Newest.{last_of}

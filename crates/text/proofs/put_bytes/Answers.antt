@@ -1,5 +1,4 @@
 use native.Mathlib.Omega.{arith}
-use borrow.Author.Rules.{rules}
 use Rattle.text.proofs.PutLaws.{put-beyond, put-left-out, put-stored}
 use Rattle.text.proofs.put_bytes.Goals as goal
 

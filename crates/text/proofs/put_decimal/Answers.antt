@@ -1,5 +1,4 @@
 use native.Mathlib.Omega.{arith}
-use borrow.Author.Rules.{rules}
 use Rattle.text.proofs.TextLaws.{decimal-put}
 use Rattle.text.proofs.put_decimal.Goals as goal
 

@@ -1,8 +1,5 @@
-use Prim.Native.Nat.{◌≤◌, ◌-◌}
-use mathlib.Core.Path.{◌≡◌}
 use borrow.Author.Rules.{rules}
-use lib.ListN.{length, take}
-use Rattle.text.specs.Text.{filled, put, escaped_byte, each}
+use Rattle.text.specs.Text.{escaped_byte}
 use Rattle.text.proofs.PutLaws.{each-starts, each_goes, each-ends}
 use Rattle.text.proofs.put_escaped.Goals as goal
 

@@ -1,5 +1,4 @@
 use mathlib.Core.Path.{sym, ◌∙◌}
-use borrow.Author.Rules.{rules}
 use Rattle.text.proofs.TextLaws.{plain-put, escaped-put}
 use Rattle.text.proofs.put_escaped_byte.Goals as goal
 

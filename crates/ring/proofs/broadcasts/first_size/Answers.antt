@@ -1,5 +1,4 @@
 use native.Mathlib.Omega.{arith}
-use borrow.Author.Rules.{rules}
 use Rattle.ring.proofs.places.CutLaws.{size_none, size-cut, size-own}
 use Rattle.ring.proofs.broadcasts.first_size.Goals as goal
 

@@ -1,9 +1,9 @@
-use Prim.Native.Nat.{◌+◌, ◌-◌, ◌≤◌}
+use Prim.Native.Nat.{◌+◌, ◌≤◌}
 use native.Mathlib.Omega.{arith}
 use lib.ListN.{length}
 use borrow.Author.Rules.{rules}
 use Rattle.ring.proofs.places.CutLaws.{first-inside, first_some}
-use Rattle.ring.proofs.places.HearingLaws.{Hearing, hearing-starts, hearing-goes, hearing-ends}
+use Rattle.ring.proofs.places.HearingLaws.{hearing-starts, hearing-goes, hearing-ends}
 use Rattle.ring.proofs.broadcasts.hear_all.Goals as goal
 use Rattle.ring.proofs.broadcasts.hear_all.Goals.{After-first_size}
 

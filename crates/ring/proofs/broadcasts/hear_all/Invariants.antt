@@ -1,9 +1,6 @@
-use Prim.Native.Nat.{◌+◌, ◌-◌, ◌≤◌}
-use native.Mathlib.Omega.{arith}
+use Prim.Native.Nat.{◌-◌}
 use lib.ListN.{length}
-use borrow.Author.Rules.{rules}
-use Rattle.ring.proofs.places.CutLaws.{first-inside, first_some}
-use Rattle.ring.proofs.places.HearingLaws.{Hearing, hearing-starts, hearing-goes, hearing-ends}
+use Rattle.ring.proofs.places.HearingLaws.{Hearing}
 use Rattle.ring.proofs.broadcasts.hear_all.Given as goal
 
 abbrev pub invariant-loop-from : goal.invariant-loop-from

@@ -1,4 +1,3 @@
-use borrow.Author.Rules.{rules}
 use Rattle.ring.proofs.places.CutLaws.{refused-is, message-is, token-is}
 use Rattle.ring.proofs.broadcasts.is_message.Goals as goal
 

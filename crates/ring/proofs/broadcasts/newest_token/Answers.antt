@@ -3,7 +3,6 @@ use mathlib.Core.Path.{◌≡◌}
 use mathlib.Core.List.{List}
 use native.Mathlib.Omega.{arith}
 use lib.ListN.{length, take, drop, length-take, length-drop}
-use borrow.Author.Rules.{rules}
 use Rattle.ring.proofs.places.CutLaws.{Last, last-starts, last_goes, last-ends}
 use Rattle.ring.proofs.broadcasts.newest_token.Goals as goal
 use Rattle.ring.proofs.broadcasts.newest_token.Goals.{After-first_size}

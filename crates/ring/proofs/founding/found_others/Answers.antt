@@ -1,12 +1,6 @@
-use Prim.Native.Nat.{ℕ, ◌*◌, ◌-◌, ◌≤◌}
 use mathlib.Core.Path.{◌≡◌}
-use mathlib.Core.List.{List}
 use native.Mathlib.Omega.{arith}
-use lib.ListN.{length}
 use borrow.Author.Rules.{rules}
-use Rattle.frames.specs.Layout.{shortest_token}
-use Rattle.record.specs.Layout.{record_size}
-use Rattle.ring.specs.Stations.{founded_up_to}
 use Rattle.ring.proofs.places.FoundingLaws.{founding-goes}
 use Rattle.ring.proofs.founding.found_others.Goals as goal
 
@@ -15,8 +9,7 @@ loop-i-init c = (omega arith, λ h. h, search rules, search rules, λ before som
 
 pub loop-i-preserved : goal.loop-i-preserved
 loop-i-preserved c =
-    let args = c.args in
-    (
+    let args = c.args in (
       omega arith,
       λ some. omega arith,
       search rules,

@@ -1,13 +1,10 @@
 use Prim.Native.Nat.{ℕ, ◌*◌, ◌-◌, ◌≤◌}
 use mathlib.Core.Path.{◌≡◌}
 use mathlib.Core.List.{List}
-use native.Mathlib.Omega.{arith}
 use lib.ListN.{length}
-use borrow.Author.Rules.{rules}
 use Rattle.frames.specs.Layout.{shortest_token}
 use Rattle.record.specs.Layout.{record_size}
 use Rattle.ring.specs.Stations.{founded_up_to}
-use Rattle.ring.proofs.places.FoundingLaws.{founding-goes}
 use Rattle.ring.proofs.founding.found_others.Given as goal
 
 abbrev pub invariant-loop-i : goal.invariant-loop-i

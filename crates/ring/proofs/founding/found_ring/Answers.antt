@@ -1,5 +1,4 @@
 use native.Mathlib.Omega.{arith}
-use borrow.Author.Rules.{rules}
 use Rattle.ring.proofs.places.FoundingLaws.{ring-roomless, ring-refused, ring-founded}
 use Rattle.ring.proofs.founding.found_ring.Goals as goal
 

@@ -1,4 +1,3 @@
-use borrow.Author.Rules.{rules}
 use Rattle.ring.proofs.places.MemberLaws.{addressee-at}
 use Rattle.ring.proofs.members.addressee_place.Goals as goal
 

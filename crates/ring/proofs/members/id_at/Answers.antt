@@ -2,7 +2,6 @@ use mathlib.Core.Path.{sym, ◌∙◌}
 use Prim.Native.Nat.{◌<◌, ◌≤◌}
 use native.Mathlib.Omega.{arith}
 use lib.ListN.{length, get_or-eq_default}
-use borrow.Author.Rules.{rules}
 use Rattle.station.specs.Over.{ids_in}
 use Rattle.ring.proofs.places.MemberLaws.{id-room, id-there}
 use Rattle.ring.proofs.members.id_at.Goals as goal

@@ -1,10 +1,8 @@
-use Prim.Native.Nat.{◌≤◌, ◌<◌, ◌-◌}
-use mathlib.Core.Path.{◌≡◌, refl, sym, ◌∙◌}
+use Prim.Native.Nat.{◌<◌}
+use mathlib.Core.Path.{refl, sym, ◌∙◌}
 use native.Mathlib.Omega.{arith}
-use lib.ListN.{length, drop}
-use borrow.Author.Rules.{rules}
+use lib.ListN.{length}
 use Rattle.station.specs.Over.{ids_in}
-use Rattle.ring.specs.Stations.{place_from}
 use Rattle.ring.proofs.places.MemberLaws.{looking-stops, looking-goes, looking-ends}
 use Rattle.ring.proofs.members.place_of.Goals as goal
 

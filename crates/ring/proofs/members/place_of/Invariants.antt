@@ -1,11 +1,8 @@
-use Prim.Native.Nat.{◌≤◌, ◌<◌, ◌-◌}
-use mathlib.Core.Path.{◌≡◌, refl, sym, ◌∙◌}
-use native.Mathlib.Omega.{arith}
+use Prim.Native.Nat.{◌≤◌, ◌-◌}
+use mathlib.Core.Path.{◌≡◌}
 use lib.ListN.{length, drop}
-use borrow.Author.Rules.{rules}
 use Rattle.station.specs.Over.{ids_in}
 use Rattle.ring.specs.Stations.{place_from}
-use Rattle.ring.proofs.places.MemberLaws.{looking-stops, looking-goes, looking-ends}
 use Rattle.ring.proofs.members.place_of.Given as goal
 
 abbrev pub invariant-loop-i : goal.invariant-loop-i
