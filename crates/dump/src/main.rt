@@ -130,12 +130,7 @@ fn take_turn(
 
 // A proved loop has to end, and nothing says that the input does. So it counts its turns down, from
 // a number that no run uses up.
-fn show_all(
-    rt: &(impl Print + Eprint),
-    stream: &mut impl Read,
-    buffer: &mut [u8],
-    out: &mut [u8],
-)
+fn show_all(rt: &(impl Print + Eprint), stream: &mut impl Read, buffer: &mut [u8], out: &mut [u8])
     requires { (most_framed ≤ length buffer.old) × (longest_line ≤ length out.old) }
 {
     let mut held = 0;

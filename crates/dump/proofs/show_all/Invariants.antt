@@ -1,7 +1,6 @@
 use Prim.Native.Nat.{◌<◌}
 use mathlib.Core.Path.{◌≡◌}
 use lib.ListN.{length}
-use borrow.Author.Rules.{rules}
 use Rattle.frames.specs.Layout.{most_framed}
 use Rattle.dump.proofs.show_all.Given as goal
 

@@ -1,10 +1,7 @@
 use Prim.Native.Nat.{◌+◌, ◌-◌, ◌≤◌, ◌<◌}
 use mathlib.Core.Path.{◌≡◌}
-use native.Mathlib.Omega.{arith}
 use lib.ListN.{length}
-use borrow.Author.Rules.{rules}
 use Rattle.frames.specs.Layout.{most_framed}
-use Rattle.dump.proofs.InputLaws.{rest-short}
 use Rattle.dump.proofs.show_frames.Given as goal
 
 abbrev pub invariant-loop-size : goal.invariant-loop-size

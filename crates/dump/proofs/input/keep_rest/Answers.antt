@@ -1,8 +1,6 @@
-use Prim.Native.Nat.{◌-◌}
 use mathlib.Core.Path.{refl}
 use native.Mathlib.Omega.{arith}
-use borrow.Author.Rules.{rules}
-use Rattle.dump.proofs.InputLaws.{Shifting, shifting-starts, shifting-goes, shifting-ends}
+use Rattle.dump.proofs.InputLaws.{shifting-starts, shifting-goes, shifting-ends}
 use Rattle.dump.proofs.input.keep_rest.Goals as goal
 
 pub returns-then-from-eq0 : goal.returns-then-from-eq0

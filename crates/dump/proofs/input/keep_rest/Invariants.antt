@@ -1,8 +1,5 @@
 use Prim.Native.Nat.{◌-◌}
-use mathlib.Core.Path.{refl}
-use native.Mathlib.Omega.{arith}
-use borrow.Author.Rules.{rules}
-use Rattle.dump.proofs.InputLaws.{Shifting, shifting-starts, shifting-goes, shifting-ends}
+use Rattle.dump.proofs.InputLaws.{Shifting}
 use Rattle.dump.proofs.input.keep_rest.Given as goal
 
 abbrev pub invariant-loop-i : goal.invariant-loop-i

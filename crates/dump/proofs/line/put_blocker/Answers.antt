@@ -1,4 +1,3 @@
-use borrow.Author.Rules.{rules}
 use Rattle.dump.proofs.LineLaws.{nobody-put, member-put}
 use Rattle.dump.proofs.line.put_blocker.Goals as goal
 

@@ -1,8 +1,4 @@
-use Prim.Native.Nat.{◌≤◌, ◌-◌}
-use mathlib.Core.Path.{◌≡◌}
 use borrow.Author.Rules.{rules}
-use lib.ListN.{length, take}
-use Rattle.text.specs.Text.{filled, put, each}
 use Rattle.dump.specs.Line.{following}
 use Rattle.text.proofs.PutLaws.{each-starts, each_goes, each-ends}
 use Rattle.dump.proofs.line.put_following.Goals as goal

@@ -1,4 +1,3 @@
-use borrow.Author.Rules.{rules}
 use Rattle.dump.specs.Line.{header_text}
 use Rattle.text.proofs.PutLaws.{put_then}
 use Rattle.dump.proofs.line.put_header.Goals as goal

@@ -1,4 +1,3 @@
-use borrow.Author.Rules.{rules}
 use Rattle.dump.proofs.LineLaws.{line-whole, refused-put, message-put, token-put}
 use Rattle.dump.proofs.line.put_line.Goals as goal
 

@@ -1,4 +1,3 @@
-use borrow.Author.Rules.{rules}
 use Rattle.dump.proofs.LineLaws.{none-listed, some-listed}
 use Rattle.dump.proofs.line.put_numbers.Goals as goal
 
