@@ -33,6 +33,11 @@ FIELDS = {
 ACCOUNTS = {"over-structs": "kept_over_structs", "over-bytes": "kept_over_bytes"}
 ACCOUNT_FILES = ("crates/ring/specs/Promise.antt", "crates/ring/proofs/runs/Promise.antt")
 
+MARKS = "crates/ring/proofs/seen/VisitMarks.antt"
+
+# A definition that the kit's scripts gave another name than its uses.
+GARBLED = [("crates/record/specs/Layout.antt", "field_own", "own_at")]
+
 HUMP = re.compile(r"(?<=[a-z0-9'₀-₉])([A-Z])")
 RUN = re.compile(r"(?<![\w'])[a-z][\w'₀-₉]*")
 STRING = re.compile(r'"(?:\\.|[^"\\])*"|b\'(?:\\.|[^\'\\])\'')
@@ -79,7 +84,14 @@ def antt(path, text):
         for name, lemma in EVERYWHERE.items():
             text = whole(name).sub(lemma, text)
     for name, field in FIELDS.items():
-        text = whole(name).sub(field, text)
+        # A lemma of ring has the dash: it says that the definition of `ordering` is the one of `visit`.
+        if name == "own-or-nobody" and path == MARKS:
+            text = text.replace("visit." + name, "visit." + field)
+        else:
+            text = whole(name).sub(field, text)
+    for path_there, name, right in GARBLED:
+        if path == path_there:
+            text = whole(name).sub(right, text)
     if path in ACCOUNT_FILES:
         for name, field in ACCOUNTS.items():
             text = whole(name).sub(field, text)

@@ -17,7 +17,7 @@ use Rattle.frames.specs.Number.{most_number, most_id}
 use Rattle.frames.specs.Layout.{length_at, length_size, kind_at, header_size, configuration_at, message_kind, message_size, most_requests, token_kind, token_size}
 use Rattle.frames.specs.Header.{header_of, header_follows, header_bytes}
 use Rattle.frames.specs.Message.{configuration, message_of, content_of, message_fixed, message_bytes}
-use Rattle.frames.specs.Token.{blocker_of, blocker_id, blocker_follows, request_count, numbered, request_numbers, requests_of, token_of, token_fixed, token_bytes}
+use Rattle.frames.specs.Token.{blocker_of, blocker_id, blocker_follows, request_count, request_numbers, requests_of, token_of, token_fixed, token_bytes}
 use Rattle.frames.specs.RoundTrip.{MessageRestored, TokenRestored}
 use Rattle.frames.specs.declared.number.MessageNumber.{MessageNumber}
 use Rattle.frames.specs.declared.token.Blocker.{Blocker}

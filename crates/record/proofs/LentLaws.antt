@@ -6,19 +6,18 @@ use mathlib.Core.List.{List}
 use borrow.Author.Tests.{eq-eqb, ne_eqb}
 use native.Mathlib.Omega.{arith}
 use lib.ListN.{length, take, drop}
-use lib.Seq.{drop-drop}
 use Rattle.words.specs.Word.{word_at}
 use Rattle.words.specs.Scan.{every}
 use Rattle.record.specs.Count.{numbers_after, those}
 use Rattle.record.specs.Held.{holds, held_numbers}
 use Rattle.record.specs.Members.{foundable}
 use Rattle.record.specs.Size.{post_contents}
-use Rattle.record.specs.Layout.{record_size, panel_at, log_at, posts_at, held_messages_at, held_contents_at, post_contents_at}
-use Rattle.record.specs.inner.Head.{log_on, record_on, record_in, record_head, contents_in, waiting_in}
+use Rattle.record.specs.Layout.{record_size, panel_at, log_at, posts_at, post_contents_at}
+use Rattle.record.specs.inner.Head.{log_on, record_on, record_in, record_head, contents_in}
 use Rattle.record.specs.declared.head.Head.{Head}
 use Rattle.record.specs.Fresh.{fresh_held, members_placed, fresh_log, fresh}
 use Rattle.record.specs.Whole.{held_in_range, numbers_in_range, log_in_range, senders_are_members, log_whole, panel_right, parts_whole, whole}
-use Rattle.record.specs.Bytes.{held_of, log_of, posts_of, record_of}
+use Rattle.record.specs.Bytes.{record_of}
 use Rattle.record.specs.Lent.{no_record, lent, bytes_whole}
 use Rattle.record.specs.Panel.{undelivered}
 use Rattle.record.specs.RoundTrip.{OtherLength}

@@ -1,6 +1,6 @@
 -- Words for lists: laws.
 use mathlib.Core.Path.{◌≡◌, refl, sym, ap, subst}
-use mathlib.Core.List.{List, ◌∷◌, ◌++◌, map}
+use mathlib.Core.List.{List, [], ◌∷◌, ◌++◌, map}
 use mathlib.Core.Logic.{◌⊎◌, inl, inr}
 use mathlib.Core.Option.{some}
 use Prim.Native.Nat.{ℕ}
@@ -13,10 +13,12 @@ pub use mathlib.Core.Logic.{⊎_map}
 pub use Rattle.ordering.proofs.Base.{none-some as none≢some}
 
 pub among-map : {A B : Type 0} (f : A → B) (x : A) (xs : List A) → Among x xs → Among (f x) (map f xs)
+among-map f x [] h = elim h [ ]
 among-map f x (y ∷ ys) (inl e) = inl (ap f e)
 among-map f x (y ∷ ys) (inr h) = inr (among-map f x ys h)
 
 pub among-back : {A B : Type 0} (f : A → B) (y : B) (xs : List A) → Among y (map f xs) → (x : A) × Among x xs × (f x ≡ y)
+among-back f y [] h = elim h [ ]
 among-back f y (x ∷ xs) (inl e) = (x, inl refl, sym e)
 among-back f y (x ∷ xs) (inr h) = let k = among-back f y xs h in (k.0, inr k.1, k.2)
 
@@ -30,6 +32,7 @@ pub among-join : {A : Type 0} (x : A) (xs ys : List A) → Among x (xs ++ ys) �
 among-join x xs ys = among-append xs ys x
 
 pub each-among : {A : Type 0} (P : A → Type 0) (x : A) (xs : List A) → Each P xs → Among x xs → P x
+each-among P x [] h k = elim k [ ]
 each-among P x (y ∷ ys) h (inl e) = subst P (sym e) h.0
 each-among P x (y ∷ ys) h (inr k) = each-among P x ys h.1 k
 

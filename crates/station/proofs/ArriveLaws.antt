@@ -39,7 +39,7 @@ use Rattle.visit.specs.declared.hearing.Hearing.{Hearing}
 use Rattle.visit.specs.declared.hearing.Hearing.TheVariants.{WasHad, IsAhead, IsKept}
 use Rattle.visit.specs.declared.visiting.Visited.{Visited}
 use Rattle.station.specs.Answer.{is_taken}
-use Rattle.station.specs.Reply.{Reply, refused, asks, answered, Does}
+use Rattle.station.specs.Reply.{refused, asks, answered, Does}
 use Rattle.station.specs.Arrive.{reader_refusal, heard_answer, message_heard, accepted, message_arrived, token_arrived, frame_arrived, arrived}
 use Rattle.station.specs.Over.{arrive_over}
 use Rattle.station.specs.inner.Value.{HeadIn}

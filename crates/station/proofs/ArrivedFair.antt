@@ -1,5 +1,5 @@
 -- Busy posts get their turn, at every accepted token.
-use Prim.Native.Nat.{ℕ, ◌-◌, ◌<◌}
+use Prim.Native.Nat.{ℕ, ◌<◌}
 use mathlib.Core.Path.{◌≡◌, refl, sym, ap, ◌∙◌}
 use mathlib.Core.List.{List}
 use native.Mathlib.Omega.{arith}
@@ -7,12 +7,11 @@ use Rattle.frames.specs.Message.{content_of}
 use Rattle.frames.specs.Read.{read_of}
 use Rattle.frames.specs.declared.message.Message.{Message}
 use Rattle.frames.specs.declared.reader.Reading.{Reading}
-use Rattle.frames.specs.declared.token.Token.{Token}
 use Rattle.record.specs.Posts.{taken}
 use Rattle.record.specs.declared.Record.{Record}
 use Rattle.visit.specs.Message.{heard_of}
-use Rattle.visit.specs.Visit.{Visit, posts, waits, new_count, rec'}
-use Rattle.visit.specs.Acceptable.{Acceptable, visit}
+use Rattle.visit.specs.Visit.{Visit, waits, new_count, rec'}
+use Rattle.visit.specs.Acceptable.{visit}
 use Rattle.visit.specs.declared.hearing.Hearing.{Hearing}
 use Rattle.visit.specs.declared.hearing.Hearing.TheVariants.{WasHad, IsAhead, IsKept}
 use Rattle.visit.proofs.VisitFacts.{new-posts}
@@ -21,7 +20,7 @@ use Rattle.station.specs.Answer.{outcome_of}
 use Rattle.station.specs.Reply.{Reply}
 use Rattle.station.specs.Arrive.{heard_answer, message_heard, accepted, arrived}
 use Rattle.station.specs.EveryArrival.{ArrivedCase, refuses, hears, accepts}
-use Rattle.station.specs.Fair.{newly_sent, OneAllowed, FairlySent, ArrivedFair}
+use Rattle.station.specs.Fair.{newly_sent, FairlySent, ArrivedFair}
 use Rattle.station.specs.declared.answer.Answer.{Answer}
 use Rattle.station.specs.declared.answer.Answer.TheVariants.{Accepted}
 use Rattle.station.proofs.ArrivedCases.{arrived-case}

@@ -1,13 +1,10 @@
 -- What holds of every arrival: a refusal leaves all as it was, the counts are those of the bytes, and a whole record stays whole.
 use Prim.Native.Nat.{ℕ, ◌<◌}
 use mathlib.Core.Path.{◌≡◌, refl}
-use mathlib.Core.Bool.{Bool, true, false, cond}
 use mathlib.Core.List.{List}
 use native.Mathlib.Omega.{arith}
-use lib.ListN.{length}
 use Rattle.frames.specs.Message.{content_of}
 use Rattle.frames.specs.declared.message.Message.{Message}
-use Rattle.record.specs.Ring.{current}
 use Rattle.record.specs.declared.Record.{Record}
 use Rattle.station.specs.Answer.{outcome_of}
 use Rattle.station.specs.Reply.{Reply}

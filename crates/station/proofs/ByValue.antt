@@ -1,11 +1,11 @@
 -- A call by value goes over bytes: what it answers and leaves is what the call on the record does.
 use Prim.Native.Nat.{ℕ}
 use mathlib.Core.Path.{◌≡◌, refl, sym, ap, ◌∙◌, subst}
-use mathlib.Core.Bool.{Bool, true, false, false≢true, ◌&&◌, cond}
-use mathlib.Core.List.{List, [], ◌++◌, append-nil}
+use mathlib.Core.Bool.{Bool, true, false, false≢true, ◌&&◌}
+use mathlib.Core.List.{List, [], append-nil}
 use borrow.Author.Tests.{le-leb}
 use native.Mathlib.Omega.{arith}
-use lib.ListN.{length, drop, replicate, drop_of_length-le, length-replicate}
+use lib.ListN.{length, replicate, drop_of_length-le, length-replicate}
 use lib.Dec.{leb}
 use lib.Seq.{length-take-le}
 use Rattle.words.specs.Word.{word_at, word_of}

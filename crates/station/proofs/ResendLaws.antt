@@ -1,14 +1,13 @@
 -- Resending, question by question.
 use Prim.Native.Nat.{ℕ, ◌≤◌}
-use mathlib.Core.Path.{◌≡◌, refl, ap, ◌∙◌}
+use mathlib.Core.Path.{◌≡◌, refl, ap}
 use mathlib.Core.Bool.{Bool, true, false, cond}
-use mathlib.Core.Logic.{◌≢◌}
 use mathlib.Core.List.{List, []}
 use borrow.Author.Tests.{eq-eqb, ne_eqb}
 use lib.ListN.{length}
 use lib.Dec.{leb}
 use Rattle.frames.specs.Layout.{longest_token}
-use Rattle.record.specs.Turn.{may_resend, remembered}
+use Rattle.record.specs.Turn.{remembered}
 use Rattle.record.specs.Bytes.{record_bytes, record_of}
 use Rattle.record.specs.Lent.{lent}
 use Rattle.record.specs.Whole.{whole}

@@ -1,6 +1,6 @@
 -- A refusal over C alters no lent byte.
 use Prim.Native.Nat.{ℕ}
-use mathlib.Core.Path.{◌≡◌, refl, sym, ap, ◌∙◌}
+use mathlib.Core.Path.{◌≡◌, refl, ap, ◌∙◌}
 use mathlib.Core.Bool.{Bool, true, false}
 use mathlib.Core.List.{List}
 use borrow.Author.Tests.{eqb-true}
@@ -8,7 +8,7 @@ use Rattle.record.specs.Lent.{no_record, lent}
 use Rattle.record.specs.declared.Record.{Record}
 use Rattle.visit.specs.Output.{followed_by}
 use Rattle.station.specs.Answer.{outcome_of, is_taken}
-use Rattle.station.specs.Reply.{Reply, refused, station_after, Does}
+use Rattle.station.specs.Reply.{Reply, refused, station_after}
 use Rattle.station.specs.EveryReply.{LeavesAll}
 use Rattle.station.specs.Over.{found_in, post_over, arrive_over, resend_over}
 use Rattle.station.specs.declared.refusal.Refusal.{Refusal}

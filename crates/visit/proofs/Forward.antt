@@ -11,7 +11,7 @@ use lib.Dec.{ltb, eqb}
 use Rattle.words.specs.Scan.{lacks}
 use Rattle.frames.specs.Number.{most_number}
 use Rattle.frames.specs.Layout.{most_round, most_backlog, most_requests, longest_token, token_size}
-use Rattle.frames.specs.Token.{numbered, request_numbers, token_follows, token_bytes}
+use Rattle.frames.specs.Token.{numbered, request_numbers, token_bytes}
 use Rattle.frames.specs.Write.{writing_of, token_written, token_put}
 use Rattle.frames.proofs.WriteLaws.{token-put}
 use Rattle.frames.specs.declared.number.MessageNumber.{MessageNumber}

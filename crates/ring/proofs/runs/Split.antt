@@ -80,5 +80,6 @@ module _ (members : List ℕ) (ring : ℕ) (founded : ℕ → Record) where
       (h.0, h.1, can-after (before ++ (c ∷ [])) cs (subst (λ s. Possible (length members) (first_frame members ring) s cs) (sym (after_one before c)) h.2))
 
   pub accepts-after : (p : ℕ) (before cs : List Call) → AcceptedIn members ring (account_of structs founded) p before cs → Accepts p (after before) cs
+  accepts-after p before [] h = elim h [ ]
   accepts-after p before (c ∷ cs) (inl h) = inl h
   accepts-after p before (c ∷ cs) (inr h) = inr (subst (λ s. Accepts p s cs) (after_one before c) (accepts-after p (before ++ (c ∷ [])) cs h))

@@ -113,6 +113,7 @@ module _ (ring : Header) where
 
   kept_there : (p n : ℕ) (frame : List ℕ) (history : List Event) → frame_seen ring frame ≡ seen.message (message_in frame) → KeptAt p frame history → ordered.KeptAt p (frame_seen ring frame) (map (event_seen ring) history)
   unfolding event_seen
+  kept_there p n frame [] m k = elim k [ ]
   kept_there p n frame (e ∷ earlier) m (inl k) =
       let kept : kept_by (said_kept e.reply.answer) (handed_over e.call) ≡ some (message_in frame) = rw (k.1, k.2) in
       inl (k.0, (message_in frame, kept, m))
@@ -127,6 +128,7 @@ module _ (ring : Header) where
 
   kept_here : (p n : ℕ) (frame : List ℕ) (history : List Event) → frame_seen ring frame ≡ seen.message (message_in frame) → ordered.KeptAt p (frame_seen ring frame) (map (event_seen ring) history) → KeptAt p frame history
   unfolding event_seen message_in
+  kept_here p n frame [] m k = elim k [ ]
   kept_here p n frame (e ∷ earlier) m (inl k) =
       let h = kept-by (said_kept e.reply.answer) (handed_over e.call) k.1.0 k.1.1 in
       let same : message_in frame ≡ k.1.0 = message-inj (sym m ∙ k.1.2) in

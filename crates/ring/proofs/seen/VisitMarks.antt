@@ -71,14 +71,14 @@ module _ (v : Visit) (ok : Acceptable v) (frame : List ℕ) where
   unfolding highest'
   highest-after = rw new-count
 
-  own_or_nobody : (b : Blocker) → visit.own_or_nobody station token (chosen v) (seen_blocker b) ≡ own_or_nobody (own v) b
+  own-or-nobody : (b : Blocker) → visit.own_or_nobody station token (chosen v) (seen_blocker b) ≡ own_or_nobody (own v) b
   unfolding station_seen
-  own_or_nobody Nobody = refl
-  own_or_nobody (Member id) = refl
+  own-or-nobody Nobody = refl
+  own-or-nobody (Member id) = refl
 
   lowers : visit.lowers station token (chosen v) ≡ sets_aru v
   unfolding sets_aru
-  lowers = rw (level-after, own_or_nobody v.token.blocker)
+  lowers = rw (level-after, own-or-nobody v.token.blocker)
 
   pub aru-after : visit.aru_after station token (chosen v) ≡ aru' v
   unfolding visit.aru_after aru'

@@ -1,4 +1,3 @@
-use borrow.Author.Rules.{rules}
 use Rattle.frames.specs.Header.{header_of}
 use Rattle.frames.proofs.header.header_of.Goals as goal
 

@@ -1,4 +1,3 @@
-use borrow.Author.Rules.{rules}
 use Rattle.frames.proofs.PutLaws.{header-stored}
 use Rattle.frames.proofs.header.put_header.Goals as goal
 

@@ -1,6 +1,5 @@
 use mathlib.Core.Path.{sym}
 use native.Mathlib.Omega.{arith}
-use borrow.Author.Rules.{rules}
 use lib.ListN.{drop_of_length-le}
 use Rattle.words.proofs.ScanLaws.{to-end}
 use Rattle.frames.proofs.message.content.Goals as goal

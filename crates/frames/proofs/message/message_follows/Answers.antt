@@ -1,4 +1,3 @@
-use borrow.Author.Rules.{rules}
 use Rattle.frames.specs.Message.{message_follows}
 use Rattle.frames.proofs.message.message_follows.Goals as goal
 

@@ -1,4 +1,3 @@
-use borrow.Author.Rules.{rules}
 use Rattle.frames.specs.Message.{message_of}
 use Rattle.frames.proofs.message.message_of.Goals as goal
 

@@ -1,6 +1,5 @@
 use mathlib.Core.Path.{◌∙◌}
 use native.Mathlib.Omega.{arith}
-use borrow.Author.Rules.{rules}
 use Rattle.frames.proofs.ReadLaws.{read_short, read-inexact, read-exact, read-as-message, read-as-token, read-other, read_as}
 use Rattle.frames.proofs.reader.read.Goals as goal
 

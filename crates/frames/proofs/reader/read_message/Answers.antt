@@ -1,6 +1,5 @@
 use mathlib.Core.Path.{◌∙◌}
 use native.Mathlib.Omega.{arith}
-use borrow.Author.Rules.{rules}
 use borrow.Author.Tests.{not-true, not-false}
 use Rattle.frames.proofs.ReadLaws.{message-short, message-configured, message-wrong, message-right}
 use Rattle.frames.proofs.reader.read_message.Goals as goal

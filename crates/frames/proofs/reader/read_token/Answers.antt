@@ -1,6 +1,5 @@
 use mathlib.Core.Path.{◌∙◌}
 use native.Mathlib.Omega.{arith}
-use borrow.Author.Rules.{rules}
 use borrow.Author.Tests.{not-true, not-false}
 use Rattle.frames.proofs.ReadLaws.{token-short, token-crowded, token-missized, token-wrong, token-right}
 use Rattle.frames.proofs.reader.read_token.Goals as goal

@@ -1,4 +1,3 @@
-use borrow.Author.Rules.{rules}
 use Rattle.frames.proofs.token.blocker_follows.Goals as goal
 
 pub returns-in-Nobody : goal.returns-in-Nobody

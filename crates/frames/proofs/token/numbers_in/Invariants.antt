@@ -1,10 +1,7 @@
 use Prim.Native.Nat.{◌-◌}
-use native.Mathlib.Omega.{arith}
-use borrow.Author.Rules.{rules}
-use Rattle.frames.specs.Token.{numbers_in}
 use Rattle.frames.specs.declared.number.MessageNumber.{MessageNumber}
 use Rattle.frames.specs.Layout.{most_requests}
-use Rattle.frames.proofs.NumberedLaws.{Mapping, mapping-starts, mapping-goes, mapping-ends}
+use Rattle.frames.proofs.NumberedLaws.{Mapping}
 use Rattle.frames.proofs.token.numbers_in.Given as goal
 
 abbrev pub invariant-loop-i : goal.invariant-loop-i

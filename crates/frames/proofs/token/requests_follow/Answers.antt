@@ -1,6 +1,5 @@
 use mathlib.Core.Path.{sym}
 use native.Mathlib.Omega.{arith}
-use borrow.Author.Rules.{rules}
 use lib.Seq.{length-take-le}
 use Rattle.frames.proofs.TokenLaws.{requests-many, requests-tested}
 use Rattle.frames.proofs.token.requests_follow.Goals as goal

@@ -1,4 +1,3 @@
-use borrow.Author.Rules.{rules}
 use Rattle.frames.proofs.TokenLaws.{requests-padded}
 use Rattle.frames.proofs.token.requests_of.Goals as goal
 

@@ -1,4 +1,3 @@
-use borrow.Author.Rules.{rules}
 use Rattle.frames.proofs.TokenLaws.{token-tested}
 use Rattle.frames.proofs.token.token_follows.Goals as goal
 

@@ -1,4 +1,3 @@
-use borrow.Author.Rules.{rules}
 use Rattle.frames.specs.Token.{token_of}
 use Rattle.frames.proofs.token.token_of.Goals as goal
 

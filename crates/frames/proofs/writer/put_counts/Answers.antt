@@ -1,4 +1,3 @@
-use borrow.Author.Rules.{rules}
 use Rattle.frames.proofs.PutLaws.{counts-stored}
 use Rattle.frames.proofs.writer.put_counts.Goals as goal
 

@@ -1,4 +1,3 @@
-use borrow.Author.Rules.{rules}
 use Rattle.frames.proofs.Sizes.{message-length}
 use Rattle.frames.proofs.WriteLaws.{put-roomless, message-taken}
 use Rattle.frames.proofs.writer.put_message.Goals as goal

@@ -1,4 +1,3 @@
-use borrow.Author.Rules.{rules}
 use Rattle.frames.proofs.PutLaws.{message-stored}
 use Rattle.frames.proofs.writer.put_message_fixed.Goals as goal
 

@@ -1,4 +1,3 @@
-use borrow.Author.Rules.{rules}
 use Rattle.frames.proofs.PutLaws.{token-stored}
 use Rattle.frames.proofs.writer.put_token_fixed.Goals as goal
 

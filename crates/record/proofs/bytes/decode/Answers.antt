@@ -1,4 +1,3 @@
-use borrow.Author.Rules.{rules}
 use mathlib.Core.Path.{◌∙◌}
 use Rattle.record.proofs.GetLaws.{decoded}
 use Rattle.record.proofs.bytes.decode.Goals as goal

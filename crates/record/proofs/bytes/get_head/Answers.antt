@@ -1,4 +1,3 @@
-use borrow.Author.Rules.{rules}
 use Rattle.record.proofs.GetLaws.{head_read}
 use Rattle.record.proofs.bytes.get_head.Goals as goal
 

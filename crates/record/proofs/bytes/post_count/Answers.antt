@@ -1,4 +1,3 @@
-use borrow.Author.Rules.{rules}
 use Rattle.record.proofs.GetLaws.{count-read}
 use Rattle.record.proofs.bytes.post_count.Goals as goal
 

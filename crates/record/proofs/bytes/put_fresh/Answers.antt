@@ -1,7 +1,6 @@
 use Prim.Native.Nat.{ℕ}
 use native.Mathlib.Omega.{arith}
 use lib.ListN.{length-replicate}
-use borrow.Author.Rules.{rules}
 use Rattle.record.specs.Size.{held_contents, post_contents}
 use Rattle.record.proofs.PutLaws.{encoded}
 use Rattle.record.proofs.bytes.put_fresh.Goals as goal

@@ -1,4 +1,3 @@
-use borrow.Author.Rules.{rules}
 use Rattle.record.specs.inner.Head.{contents_in}
 use Rattle.record.specs.Layout.{log_at}
 use Rattle.record.proofs.bytes.put_head.Goals as goal

@@ -1,4 +1,3 @@
-use borrow.Author.Rules.{rules}
 use Rattle.words.proofs.ScanLaws.{to-end}
 use Rattle.record.specs.Bytes.{record_of}
 use Rattle.record.proofs.bytes.turn_in.Goals as goal

@@ -1,4 +1,3 @@
-use borrow.Author.Rules.{rules}
 use Rattle.record.specs.Fresh.{fresh}
 use Rattle.record.proofs.fresh.fresh_head.Goals as goal
 

@@ -1,4 +1,3 @@
-use borrow.Author.Rules.{rules}
 use Rattle.record.specs.Fresh.{fresh_held, fresh_log}
 use Rattle.record.proofs.fresh.fresh_log.Goals as goal
 

@@ -1,8 +1,4 @@
-use Prim.Native.Nat.{◌≤◌, ◌-◌}
-use mathlib.Core.Path.{◌≡◌}
-use lib.ListN.{length, take}
 use borrow.Author.Rules.{rules}
-use Rattle.record.specs.Fresh.{members_placed}
 use Rattle.record.proofs.FreshLaws.{placed-none, placed-next, placed-all}
 use Rattle.record.proofs.fresh.places_of.Goals as goal
 

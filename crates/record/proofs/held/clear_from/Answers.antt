@@ -1,9 +1,5 @@
-use Prim.Native.Nat.{◌+◌, ◌-◌, ◌≤◌}
-use mathlib.Core.Path.{◌≡◌}
-use lib.ListN.{length}
 use borrow.Author.Rules.{rules}
-use Rattle.record.specs.Held.{cleared, cleared_from}
-use Rattle.record.specs.inner.Head.{held_from}
+use Rattle.record.specs.Held.{cleared}
 use Rattle.record.proofs.HeldSteps.{cleared-none, cleared_more, cleared-all}
 use Rattle.record.proofs.held.clear_from.Goals as goal
 

@@ -1,5 +1,4 @@
 use native.Mathlib.Numerals.{add-one}
-use borrow.Author.Rules.{rules}
 use Rattle.record.specs.Held.{let_go}
 use Rattle.record.proofs.held.let_go.Goals as goal
 

@@ -1,4 +1,3 @@
-use borrow.Author.Rules.{rules}
 use Rattle.record.specs.Held.{held_with}
 use Rattle.record.proofs.held.place_message.Goals as goal
 

@@ -1,5 +1,4 @@
 use mathlib.Core.Path.{sym, ap, ◌∙◌}
-use borrow.Author.Rules.{rules}
 use Rattle.record.specs.inner.Head.{record_head}
 use Rattle.record.proofs.LentLaws.{lent_of, lent_none}
 use Rattle.record.proofs.lent.head_in.Goals as goal

@@ -1,5 +1,4 @@
 use mathlib.Core.Path.{◌∙◌}
-use borrow.Author.Rules.{rules}
 use Rattle.record.proofs.PartLaws.{contents-put, behind-left, content-copied}
 use Rattle.record.proofs.lent.hold_content_in.Goals as goal
 

@@ -1,5 +1,4 @@
 use mathlib.Core.Path.{sym}
-use borrow.Author.Rules.{rules}
 use Rattle.record.proofs.LentLaws.{other_length, shown-wrong, whole-there}
 use Rattle.record.proofs.lent.is_whole_at.Goals as goal
 

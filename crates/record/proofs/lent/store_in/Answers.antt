@@ -1,4 +1,3 @@
-use borrow.Author.Rules.{rules}
 use Rattle.record.proofs.PartLaws.{contents-put, behind-left}
 use Rattle.record.proofs.lent.store_in.Goals as goal
 

@@ -1,4 +1,3 @@
-use borrow.Author.Rules.{rules}
 use Rattle.record.proofs.PartLaws.{waiting-put, before-left}
 use Rattle.record.proofs.lent.take_oldest_in.Goals as goal
 

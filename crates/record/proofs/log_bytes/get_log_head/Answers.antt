@@ -1,4 +1,3 @@
-use borrow.Author.Rules.{rules}
 use Rattle.record.proofs.GetLaws.{log-read}
 use Rattle.record.proofs.log_bytes.get_log_head.Goals as goal
 

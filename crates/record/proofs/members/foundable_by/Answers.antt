@@ -1,4 +1,3 @@
-use borrow.Author.Rules.{rules}
 use Rattle.record.specs.Members.{foundable}
 use Rattle.record.proofs.members.foundable_by.Goals as goal
 

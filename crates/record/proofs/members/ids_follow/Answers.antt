@@ -1,4 +1,3 @@
-use borrow.Author.Rules.{rules}
 use Rattle.record.specs.Members.{ids_follow}
 use Rattle.record.proofs.MemberLaws.{ids-none}
 use Rattle.record.proofs.members.ids_follow.Goals as goal

@@ -1,4 +1,3 @@
-use borrow.Author.Rules.{rules}
 use Rattle.record.proofs.members.is_member.Goals as goal
 
 pub returns : goal.returns

@@ -1,10 +1,8 @@
-use Prim.Native.Nat.{◌-◌, ◌≤◌}
+use Prim.Native.Nat.{◌≤◌}
 use native.Mathlib.Nat.{zero-add}
 use native.Mathlib.Omega.{arith}
-use borrow.Author.Rules.{rules}
-use Rattle.record.specs.Size.{most_held}
 use Rattle.record.specs.inner.Head.{log_on}
-use Rattle.record.proofs.TallyLaws.{Tallied, tally-starts, tally-goes, tally-ends, one-most, place_undelivered, undelivered-by-place}
+use Rattle.record.proofs.TallyLaws.{tally-starts, tally-goes, tally-ends, one-most, place_undelivered, undelivered-by-place}
 use Rattle.record.proofs.panel.undelivered.Goals as goal
 
 pub loop-i-init : goal.loop-i-init

@@ -1,10 +1,6 @@
-use Prim.Native.Nat.{◌-◌, ◌≤◌}
-use native.Mathlib.Nat.{zero-add}
-use native.Mathlib.Omega.{arith}
-use borrow.Author.Rules.{rules}
+use Prim.Native.Nat.{◌-◌}
 use Rattle.record.specs.Size.{most_held}
-use Rattle.record.specs.inner.Head.{log_on}
-use Rattle.record.proofs.TallyLaws.{Tallied, tally-starts, tally-goes, tally-ends, one-most, place_undelivered, undelivered-by-place}
+use Rattle.record.proofs.TallyLaws.{Tallied, place_undelivered}
 use Rattle.record.proofs.panel.undelivered.Given as goal
 
 abbrev pub invariant-loop-i : goal.invariant-loop-i

@@ -1,9 +1,5 @@
-use Prim.Native.Nat.{◌-◌}
-use mathlib.Core.Path.{◌≡◌}
-use lib.ListN.{length}
 use borrow.Author.Rules.{rules}
-use Rattle.record.specs.Size.{most_posts, post_contents}
-use Rattle.record.proofs.MoveLaws.{Cleared, cleared-starts, cleared-long, cleared-goes, cleared-all}
+use Rattle.record.proofs.MoveLaws.{cleared-starts, cleared-long, cleared-goes, cleared-all}
 use Rattle.record.proofs.posts.clear_from.Goals as goal
 
 pub loop-i-init : goal.loop-i-init

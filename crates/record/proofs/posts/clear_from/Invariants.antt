@@ -1,9 +1,8 @@
 use Prim.Native.Nat.{◌-◌}
 use mathlib.Core.Path.{◌≡◌}
 use lib.ListN.{length}
-use borrow.Author.Rules.{rules}
 use Rattle.record.specs.Size.{most_posts, post_contents}
-use Rattle.record.proofs.MoveLaws.{Cleared, cleared-starts, cleared-long, cleared-goes, cleared-all}
+use Rattle.record.proofs.MoveLaws.{Cleared}
 use Rattle.record.proofs.posts.clear_from.Given as goal
 
 abbrev pub invariant-loop-i : goal.invariant-loop-i

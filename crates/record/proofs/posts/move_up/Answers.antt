@@ -1,10 +1,9 @@
 use Prim.Native.Nat.{◌-◌}
 use mathlib.Core.Path.{◌≡◌, refl}
 use native.Mathlib.Omega.{arith}
-use lib.ListN.{length}
 use borrow.Author.Rules.{rules}
-use Rattle.record.specs.Size.{most_posts, post_contents}
-use Rattle.record.proofs.MoveLaws.{Moved, moved-starts, moved-long, moved-goes}
+use Rattle.record.specs.Size.{most_posts}
+use Rattle.record.proofs.MoveLaws.{moved-starts, moved-long, moved-goes}
 use Rattle.record.proofs.posts.move_up.Goals as goal
 
 pub loop-i-init : goal.loop-i-init

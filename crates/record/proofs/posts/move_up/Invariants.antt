@@ -1,10 +1,8 @@
 use Prim.Native.Nat.{◌-◌}
-use mathlib.Core.Path.{◌≡◌, refl}
-use native.Mathlib.Omega.{arith}
+use mathlib.Core.Path.{◌≡◌}
 use lib.ListN.{length}
-use borrow.Author.Rules.{rules}
 use Rattle.record.specs.Size.{most_posts, post_contents}
-use Rattle.record.proofs.MoveLaws.{Moved, moved-starts, moved-long, moved-goes}
+use Rattle.record.proofs.MoveLaws.{Moved}
 use Rattle.record.proofs.posts.move_up.Given as goal
 
 abbrev pub invariant-loop-i : goal.invariant-loop-i

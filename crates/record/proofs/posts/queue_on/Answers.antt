@@ -1,5 +1,4 @@
 use native.Mathlib.Omega.{arith}
-use borrow.Author.Rules.{rules}
 use Rattle.record.specs.Posts.{queued}
 use Rattle.record.proofs.posts.queue_on.Goals as goal
 

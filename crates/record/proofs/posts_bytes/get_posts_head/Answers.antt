@@ -1,4 +1,3 @@
-use borrow.Author.Rules.{rules}
 use Rattle.record.proofs.GetLaws.{posts-read}
 use Rattle.record.proofs.posts_bytes.get_posts_head.Goals as goal
 

@@ -1,16 +1,9 @@
-use Prim.Native.Nat.{suc, ◌-◌}
-use mathlib.Core.Bool.{not, ◌||◌, not-not}
+use mathlib.Core.Bool.{not-not}
 use native.Mathlib.Numerals.{add-one}
 use native.Mathlib.Omega.{arith}
-use lib.ListN.{get_or}
-use lib.Dec.{leb, eqb}
-use borrow.Author.Rules.{rules}
 use borrow.Author.Tests.{not-true, not-false}
-use Rattle.frames.specs.Number.{most_number}
-use Rattle.record.specs.Size.{most_held}
-use Rattle.record.specs.Held.{place_of}
 use Rattle.record.specs.inner.Head.{log_on}
-use Rattle.record.proofs.CountLaws.{Counting, count-starts, count-stops, count-goes, count-ends}
+use Rattle.record.proofs.CountLaws.{count-starts, count-stops, count-goes, count-ends}
 use Rattle.record.proofs.RangeLaws.{numbers-tested, numbers-below}
 use Rattle.record.proofs.range.numbers_in_range.Goals as goal
 

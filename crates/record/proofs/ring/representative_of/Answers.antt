@@ -1,4 +1,3 @@
-use borrow.Author.Rules.{rules}
 use Rattle.record.proofs.MemberLaws.{representative-none}
 use Rattle.record.proofs.ring.representative_of.Goals as goal
 

@@ -1,4 +1,3 @@
-use borrow.Author.Rules.{rules}
 use Rattle.record.specs.Ring.{this_ring}
 use Rattle.record.proofs.ring.this_ring.Goals as goal
 

@@ -1,4 +1,3 @@
-use borrow.Author.Rules.{rules}
 use Rattle.record.specs.Ring.{token_members}
 use Rattle.record.proofs.ring.token_members.Goals as goal
 

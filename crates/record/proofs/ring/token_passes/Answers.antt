@@ -1,4 +1,3 @@
-use borrow.Author.Rules.{rules}
 use Rattle.record.proofs.MemberLaws.{passes-joined}
 use Rattle.record.proofs.ring.token_passes.Goals as goal
 

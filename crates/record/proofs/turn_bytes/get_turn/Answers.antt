@@ -1,4 +1,3 @@
-use borrow.Author.Rules.{rules}
 use Rattle.record.proofs.GetLaws.{turn-read}
 use Rattle.record.proofs.turn_bytes.get_turn.Goals as goal
 

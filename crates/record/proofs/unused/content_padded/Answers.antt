@@ -1,7 +1,6 @@
 use mathlib.Core.Path.{◌≡◌, ap}
 use native.Mathlib.Omega.{arith}
 use lib.ListN.{length}
-use borrow.Author.Rules.{rules}
 use Rattle.record.proofs.PieceLaws.{past_all, padded-by-limits}
 use Rattle.record.proofs.unused.content_padded.Goals as goal
 

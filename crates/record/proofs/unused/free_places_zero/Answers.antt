@@ -1,12 +1,6 @@
-use Prim.Native.Nat.{◌-◌}
-use mathlib.Core.Bool.{not, ◌||◌, ◌&&◌}
 use native.Mathlib.Nat.{zero-add}
-use lib.ListN.{get_or}
-use lib.Dec.{eqb}
-use borrow.Author.Rules.{rules}
-use Rattle.record.specs.Size.{most_held}
 use Rattle.record.specs.Whole.{free_places_zero}
-use Rattle.record.proofs.CountLaws.{Gathered, gathered-starts, gathered-goes, gathered-ends}
+use Rattle.record.proofs.CountLaws.{gathered-starts, gathered-goes, gathered-ends}
 use Rattle.record.proofs.unused.free_places_zero.Goals as goal
 
 pub loop-i-init : goal.loop-i-init

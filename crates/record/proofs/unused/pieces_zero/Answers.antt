@@ -1,9 +1,6 @@
-use Prim.Native.Nat.{◌+◌, ◌-◌, min}
-use mathlib.Core.Path.{◌≡◌}
 use native.Mathlib.Nat.{zero-add}
-use borrow.Author.Rules.{rules}
-use Rattle.record.proofs.CountLaws.{Gathered, gathered-starts, gathered-goes, gathered-ends}
-use Rattle.record.proofs.PieceLaws.{zero_in_four, padded-by-pieces}
+use Rattle.record.proofs.CountLaws.{gathered-starts, gathered-goes, gathered-ends}
+use Rattle.record.proofs.PieceLaws.{padded-by-pieces}
 use Rattle.record.proofs.unused.pieces_zero.Goals as goal
 
 pub loop-i-init : goal.loop-i-init

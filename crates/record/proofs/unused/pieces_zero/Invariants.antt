@@ -1,9 +1,7 @@
 use Prim.Native.Nat.{◌+◌, ◌-◌, min}
 use mathlib.Core.Path.{◌≡◌}
-use native.Mathlib.Nat.{zero-add}
-use borrow.Author.Rules.{rules}
-use Rattle.record.proofs.CountLaws.{Gathered, gathered-starts, gathered-goes, gathered-ends}
-use Rattle.record.proofs.PieceLaws.{zero_in_four, padded-by-pieces}
+use Rattle.record.proofs.CountLaws.{Gathered}
+use Rattle.record.proofs.PieceLaws.{zero_in_four}
 use Rattle.record.proofs.unused.pieces_zero.Given as goal
 
 abbrev pub invariant-loop-i : goal.invariant-loop-i

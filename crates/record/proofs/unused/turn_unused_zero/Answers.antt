@@ -1,4 +1,3 @@
-use borrow.Author.Rules.{rules}
 use Rattle.record.specs.Whole.{turn_unused_zero}
 use Rattle.record.proofs.unused.turn_unused_zero.Goals as goal
 

@@ -1,9 +1,5 @@
-use Prim.Native.Nat.{◌-◌}
 use native.Mathlib.Nat.{zero-add}
-use lib.ListN.{get_or}
-use lib.Dec.{leb}
-use borrow.Author.Rules.{rules}
-use Rattle.record.proofs.CountLaws.{Gathered, gathered-starts, gathered-goes, gathered-ends}
+use Rattle.record.proofs.CountLaws.{gathered-starts, gathered-goes, gathered-ends}
 use Rattle.record.proofs.unused.within_limits.Goals as goal
 
 pub loop-i-init : goal.loop-i-init

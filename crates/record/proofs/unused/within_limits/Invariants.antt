@@ -1,9 +1,7 @@
 use Prim.Native.Nat.{◌-◌}
-use native.Mathlib.Nat.{zero-add}
 use lib.ListN.{get_or}
 use lib.Dec.{leb}
-use borrow.Author.Rules.{rules}
-use Rattle.record.proofs.CountLaws.{Gathered, gathered-starts, gathered-goes, gathered-ends}
+use Rattle.record.proofs.CountLaws.{Gathered}
 use Rattle.record.proofs.unused.within_limits.Given as goal
 
 abbrev pub invariant-loop-i : goal.invariant-loop-i

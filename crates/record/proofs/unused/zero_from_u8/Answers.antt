@@ -1,4 +1,3 @@
-use borrow.Author.Rules.{rules}
 use Rattle.words.proofs.ScanLaws.{to-end}
 use Rattle.record.proofs.UnusedLaws.{past_end}
 use Rattle.record.proofs.unused.zero_from_u8.Goals as goal

@@ -1,10 +1,7 @@
 use Prim.Native.Nat.{◌-◌}
-use native.Mathlib.Nat.{zero-add}
-use borrow.Author.Rules.{rules}
 use Rattle.record.specs.Size.{most_held}
-use Rattle.record.specs.inner.Head.{log_on}
-use Rattle.record.proofs.CountLaws.{Gathered, gathered-starts, gathered-goes, gathered-ends}
-use Rattle.record.proofs.PlaceLaws.{place_filled, level-too-high, level-by-place}
+use Rattle.record.proofs.CountLaws.{Gathered}
+use Rattle.record.proofs.PlaceLaws.{place_filled}
 use Rattle.record.proofs.whole.held_to_level.Given as goal
 
 abbrev pub invariant-loop-i : goal.invariant-loop-i

@@ -1,7 +1,6 @@
 use Prim.Native.Nat.{◌-◌}
 use native.Mathlib.Omega.{arith}
 use lib.Seq.{length-take-le}
-use borrow.Author.Rules.{rules}
 use Rattle.record.specs.inner.Head.{log_on}
 use Rattle.record.specs.declared.log.Log.{Log}
 use Rattle.record.proofs.RangeFacts.{LogRange}

@@ -1,4 +1,3 @@
-use borrow.Author.Rules.{rules}
 use native.Mathlib.Numerals.{add-one}
 use Rattle.record.specs.Held.{holds}
 use Rattle.record.specs.Whole.{next_not_held}

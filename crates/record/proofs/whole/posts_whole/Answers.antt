@@ -1,4 +1,3 @@
-use borrow.Author.Rules.{rules}
 use Rattle.record.specs.inner.Head.{posts_on}
 use Rattle.record.specs.declared.posts.Posts.{Posts}
 use Rattle.record.proofs.WholeLaws.{posts-refused, posts-tested}

@@ -1,10 +1,8 @@
-use Prim.Native.Nat.{◌-◌}
-use mathlib.Core.Path.{◌≡◌, refl, ◌∙◌}
+use mathlib.Core.Path.{refl, ◌∙◌}
 use native.Mathlib.Omega.{arith}
-use lib.ListN.{length, get_or, drop}
+use lib.ListN.{get_or}
 use borrow.Author.Rules.{rules}
-use Rattle.record.specs.Size.{most_held}
-use Rattle.record.proofs.StrikeLaws.{length-struck, struck_all, each_goes, each-ends, members-alone}
+use Rattle.record.proofs.StrikeLaws.{length-struck, each_goes, each-ends, members-alone}
 use Rattle.record.proofs.whole.senders_are_members.Goals as goal
 
 pub loop-i-init : goal.loop-i-init

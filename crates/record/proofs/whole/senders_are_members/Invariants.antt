@@ -1,10 +1,8 @@
 use Prim.Native.Nat.{◌-◌}
-use mathlib.Core.Path.{◌≡◌, refl, ◌∙◌}
-use native.Mathlib.Omega.{arith}
-use lib.ListN.{length, get_or, drop}
-use borrow.Author.Rules.{rules}
+use mathlib.Core.Path.{◌≡◌}
+use lib.ListN.{length, drop}
 use Rattle.record.specs.Size.{most_held}
-use Rattle.record.proofs.StrikeLaws.{length-struck, struck_all, each_goes, each-ends, members-alone}
+use Rattle.record.proofs.StrikeLaws.{struck_all}
 use Rattle.record.proofs.whole.senders_are_members.Given as goal
 
 abbrev pub invariant-loop-i : goal.invariant-loop-i

@@ -1,7 +1,4 @@
-use Prim.Native.Nat.{◌-◌}
-use lib.ListN.{length}
-use borrow.Author.Rules.{rules}
-use Rattle.record.proofs.StrikeLaws.{Striking, strike-starts, strike-goes, strike-ends}
+use Rattle.record.proofs.StrikeLaws.{strike-starts, strike-goes, strike-ends}
 use Rattle.record.proofs.whole.strike.Goals as goal
 
 pub loop-i-init : goal.loop-i-init

@@ -1,7 +1,6 @@
 use Prim.Native.Nat.{◌-◌}
 use lib.ListN.{length}
-use borrow.Author.Rules.{rules}
-use Rattle.record.proofs.StrikeLaws.{Striking, strike-starts, strike-goes, strike-ends}
+use Rattle.record.proofs.StrikeLaws.{Striking}
 use Rattle.record.proofs.whole.strike.Given as goal
 
 abbrev pub invariant-loop-i : goal.invariant-loop-i

@@ -1,11 +1,10 @@
-use mathlib.Core.Path.{◌≡◌, refl, sym, ap, ◌∙◌}
+use mathlib.Core.Path.{sym, ◌∙◌}
 use borrow.Author.Tests.{not-true, not-false}
 use Rattle.record.specs.Lent.{lent}
 use Rattle.record.proofs.LentLaws.{own-head}
 use Rattle.station.proofs.DoesLaws.{refuses, known}
 use Rattle.station.proofs.LentLaws.{whole_long}
 use Rattle.station.proofs.ArriveLaws.{both-fit, over-roomless, over-not-whole, over-passes, head-there}
-use borrow.Author.Rules.{rules}
 use Rattle.station.proofs.arriving.arrive_in.Goals as goal
 
 pub returns-then-not-arrival_fits : goal.returns-then-not-arrival_fits

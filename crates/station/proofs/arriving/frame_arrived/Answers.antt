@@ -1,8 +1,6 @@
-use mathlib.Core.Path.{◌≡◌, refl, sym, ap, ◌∙◌}
 use Rattle.record.specs.inner.Head.{record_in}
 use Rattle.station.proofs.DoesLaws.{refuses, known, no_frames}
 use Rattle.station.proofs.ArriveLaws.{arrived-unread, message-there, arrived-message, token-there, arrived-token, writes-none}
-use borrow.Author.Rules.{rules}
 use Rattle.station.proofs.arriving.frame_arrived.Goals as goal
 
 pub message_arrived-requires : goal.message_arrived-requires

@@ -1,7 +1,6 @@
 use mathlib.Core.Path.{◌≡◌}
 use mathlib.Core.Bool.{true}
 use native.Mathlib.Omega.{arith}
-use borrow.Author.Rules.{rules}
 use borrow.Author.Tests.{not-true, not-false}
 use Rattle.record.specs.inner.Head.{record_in}
 use Rattle.record.specs.Ring.{ids, this_ring}
@@ -32,15 +31,15 @@ returns-then-not-is_member c =
 
 pub hear-heard-requires : goal.hear-heard-requires
 hear-heard-requires c = (
-      record {
-        whole_record = c.requires.0.whole_record;
-        follows = c.requires.1;
-        this-ring = this (goal.at.hear-heard-requires c).Else-not-this_ring;
-        member = sender-asked (the-record (goal.at.hear-heard-requires c).Start) _ _ c.args.m.sender c.is_member.ensures (not-false _ c.if-not-is_member.false-raw);
-      },
-      c.requires.0.size,
-      c.requires.2,
-    )
+  record {
+    whole_record = c.requires.0.whole_record;
+    follows = c.requires.1;
+    this-ring = this (goal.at.hear-heard-requires c).Else-not-this_ring;
+    member = sender-asked (the-record (goal.at.hear-heard-requires c).Start) _ _ c.args.m.sender c.is_member.ensures (not-false _ c.if-not-is_member.false-raw);
+  },
+  c.requires.0.size,
+  c.requires.2,
+)
 
 pub returns : goal.returns
 returns c =

@@ -1,7 +1,6 @@
 use mathlib.Core.Path.{◌≡◌, sym, ◌∙◌}
 use mathlib.Core.Bool.{true}
 use native.Mathlib.Omega.{arith}
-use borrow.Author.Rules.{rules}
 use borrow.Author.Tests.{not-true, not-false}
 use Rattle.record.specs.inner.Head.{record_in, contents_in}
 use Rattle.record.specs.Layout.{log_at}
@@ -62,20 +61,20 @@ covers c = sym (c.covers_held.ensures (contents_in c.args.s.now log_at)) ∙ not
 
 pub accept-visited-requires : goal.accept-visited-requires
 accept-visited-requires c = (
-      record {
-        whole_record = c.requires.0.whole_record;
-        follows = c.requires.1;
-        this-ring = this (goal.at.accept-visited-requires c).Else-not-this_ring;
-        members = members (goal.at.accept-visited-requires c).Else-not-token_members;
-        here = c.if-t-h.false;
-        newer = c.if-t-h-2.false;
-        not_last = c.if-t-ge-MOST_NUMBER.false;
-        covers = covers (goal.at.accept-visited-requires c).Else-not-covers_held;
-      },
-      c.requires.0.size,
-      c.requires.2,
-      c.requires.3,
-    )
+  record {
+    whole_record = c.requires.0.whole_record;
+    follows = c.requires.1;
+    this-ring = this (goal.at.accept-visited-requires c).Else-not-this_ring;
+    members = members (goal.at.accept-visited-requires c).Else-not-token_members;
+    here = c.if-t-h.false;
+    newer = c.if-t-h-2.false;
+    not_last = c.if-t-ge-MOST_NUMBER.false;
+    covers = covers (goal.at.accept-visited-requires c).Else-not-covers_held;
+  },
+  c.requires.0.size,
+  c.requires.2,
+  c.requires.3,
+)
 
 pub returns : goal.returns
 returns c =

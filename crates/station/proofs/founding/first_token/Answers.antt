@@ -1,4 +1,3 @@
-use borrow.Author.Rules.{rules}
 use Rattle.station.specs.Found.{first_token}
 use Rattle.station.proofs.founding.first_token.Goals as goal
 

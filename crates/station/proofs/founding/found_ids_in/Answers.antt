@@ -1,8 +1,7 @@
-use mathlib.Core.Path.{◌≡◌, refl, sym, ap, ◌∙◌}
+use mathlib.Core.Path.{sym, ◌∙◌}
 use borrow.Author.Tests.{not-true, not-false}
 use Rattle.station.proofs.DoesLaws.{refuses}
 use Rattle.station.proofs.FoundLaws.{in-roomless, in-tokenless, in-uncounted, in-bad-ids, in-not-among, in-bad-ring, in-founded, foundable-when, counted-most}
-use borrow.Author.Rules.{rules}
 use Rattle.station.proofs.founding.found_ids_in.Goals as goal
 
 pub returns-then-s-lt-RECORD_SIZE : goal.returns-then-s-lt-RECORD_SIZE

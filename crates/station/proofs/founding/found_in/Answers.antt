@@ -1,8 +1,7 @@
-use mathlib.Core.Path.{◌≡◌, refl, sym, ap, ◌∙◌}
+use mathlib.Core.Path.{refl}
 use native.Mathlib.Omega.{arith}
 use Rattle.station.proofs.DoesLaws.{known}
 use Rattle.station.proofs.ListLaws.{count_fits, ids-read, over-listed}
-use borrow.Author.Rules.{rules}
 use Rattle.station.proofs.founding.found_in.Goals as goal
 
 pub slice_bounds-get_u16s-end : goal.slice_bounds-get_u16s-end

@@ -1,6 +1,5 @@
-use mathlib.Core.Path.{◌≡◌, refl, sym, ap, ◌∙◌}
+use mathlib.Core.Path.{◌∙◌}
 use Rattle.station.proofs.ByValue.{founded-by-value}
-use borrow.Author.Rules.{rules}
 use Rattle.station.proofs.founding.found_step.Goals as goal
 
 pub returns : goal.returns

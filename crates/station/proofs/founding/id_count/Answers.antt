@@ -1,4 +1,3 @@
-use borrow.Author.Rules.{rules}
 use Rattle.station.proofs.ListLaws.{count-odd, count-many, count-even}
 use Rattle.station.proofs.founding.id_count.Goals as goal
 

@@ -1,4 +1,3 @@
-use borrow.Author.Rules.{rules}
 use Rattle.station.proofs.FoundLaws.{first-written}
 use Rattle.station.proofs.founding.put_first_token.Goals as goal
 

@@ -1,10 +1,9 @@
-use mathlib.Core.Path.{◌≡◌, refl, sym, ap, ◌∙◌}
+use mathlib.Core.Path.{sym, ◌∙◌}
 use borrow.Author.Tests.{not-true, not-false}
 use native.Mathlib.Omega.{arith}
 use Rattle.station.proofs.DoesLaws.{refuses}
 use Rattle.station.proofs.LentLaws.{whole_long, whole-enough}
 use Rattle.station.proofs.PostLaws.{over-not-whole, over-long, over-service, over-full, over-posted}
-use borrow.Author.Rules.{rules}
 use Rattle.station.proofs.posting.post_in.Goals as goal
 
 pub returns-then-not-is_whole_in : goal.returns-then-not-is_whole_in

@@ -1,6 +1,5 @@
-use mathlib.Core.Path.{◌≡◌, refl, sym, ap, ◌∙◌}
+use mathlib.Core.Path.{◌∙◌}
 use Rattle.station.proofs.ByValue.{posted-by-value}
-use borrow.Author.Rules.{rules}
 use Rattle.station.proofs.posting.post_step.Goals as goal
 
 pub returns : goal.returns

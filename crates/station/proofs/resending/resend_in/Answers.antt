@@ -1,4 +1,4 @@
-use mathlib.Core.Path.{◌≡◌, refl, sym, ap, ◌∙◌}
+use mathlib.Core.Path.{sym, ap, ◌∙◌}
 use borrow.Author.Tests.{not-true, not-false}
 use borrow.Author.Tests.{leb-true}
 use native.Mathlib.Omega.{arith}
@@ -9,7 +9,6 @@ use Rattle.visit.specs.Output.{most_frames}
 use Rattle.station.proofs.DoesLaws.{refuses}
 use Rattle.station.proofs.LentLaws.{whole_long, whole-enough, whole-lent}
 use Rattle.station.proofs.ResendLaws.{token-fits, over-roomless, over-not-whole, over_nothing, over-resent}
-use borrow.Author.Rules.{rules}
 use Rattle.station.proofs.resending.resend_in.Goals as goal
 
 pub returns-then-not-resending_fits : goal.returns-then-not-resending_fits

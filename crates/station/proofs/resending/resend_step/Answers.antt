@@ -1,6 +1,5 @@
-use mathlib.Core.Path.{◌≡◌, refl, sym, ap, ◌∙◌}
+use mathlib.Core.Path.{◌∙◌}
 use Rattle.station.proofs.ByValue.{resent-by-value}
-use borrow.Author.Rules.{rules}
 use Rattle.station.proofs.resending.resend_step.Goals as goal
 
 pub returns : goal.returns

@@ -1,5 +1,4 @@
 use native.Mathlib.Omega.{arith}
-use borrow.Author.Rules.{rules}
 use Rattle.record.specs.inner.Head.{record_in, contents_in}
 use Rattle.record.specs.Layout.{log_at}
 use Rattle.visit.specs.Visit.{Visit}

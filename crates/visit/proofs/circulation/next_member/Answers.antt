@@ -1,9 +1,5 @@
-use Prim.Native.Nat.{◌-◌}
 use mathlib.Core.Path.{◌∙◌}
-use lib.ListN.{length}
-use borrow.Author.Rules.{rules}
-use Rattle.record.specs.Members.{representative}
-use Rattle.visit.proofs.CirculationLaws.{Seeking, seeking-starts, seeking-goes, seeking-finds, seeking-turns, seeking-ends}
+use Rattle.visit.proofs.CirculationLaws.{seeking-starts, seeking-goes, seeking-finds, seeking-turns, seeking-ends}
 use Rattle.visit.proofs.circulation.next_member.Goals as goal
 
 pub loop-i-init : goal.loop-i-init

@@ -1,9 +1,7 @@
 use Prim.Native.Nat.{◌-◌}
-use mathlib.Core.Path.{◌∙◌}
 use lib.ListN.{length}
-use borrow.Author.Rules.{rules}
 use Rattle.record.specs.Members.{representative}
-use Rattle.visit.proofs.CirculationLaws.{Seeking, seeking-starts, seeking-goes, seeking-finds, seeking-turns, seeking-ends}
+use Rattle.visit.proofs.CirculationLaws.{Seeking}
 use Rattle.visit.proofs.circulation.next_member.Given as goal
 
 abbrev pub invariant-loop-i : goal.invariant-loop-i

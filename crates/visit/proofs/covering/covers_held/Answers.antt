@@ -1,10 +1,7 @@
-use Prim.Native.Nat.{◌-◌}
 use native.Mathlib.Nat.{zero-add}
-use borrow.Author.Rules.{rules}
-use Rattle.record.specs.Size.{most_held}
 use Rattle.record.specs.inner.Head.{log_on}
-use Rattle.record.proofs.CountLaws.{Gathered, gathered-starts, gathered-goes, gathered-ends}
-use Rattle.visit.proofs.CoversLaws.{place_covered, covers_below, covers-by-place}
+use Rattle.record.proofs.CountLaws.{gathered-starts, gathered-goes, gathered-ends}
+use Rattle.visit.proofs.CoversLaws.{covers_below, covers-by-place}
 use Rattle.visit.proofs.covering.covers_held.Goals as goal
 
 pub returns-then-highest-l : goal.returns-then-highest-l

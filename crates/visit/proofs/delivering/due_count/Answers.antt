@@ -1,10 +1,8 @@
-use Prim.Native.Nat.{ℕ, ◌-◌}
 use mathlib.Core.Path.{sym, ◌∙◌}
-use mathlib.Core.List.{List, []}
+use mathlib.Core.List.{[]}
 use borrow.Author.Tests.{not-true, not-false}
 use borrow.Author.Rules.{rules}
-use Rattle.record.specs.inner.Head.{log_on}
-use Rattle.visit.proofs.DueCount.{Counted, count-starts, count-stops, count-goes, count-ends}
+use Rattle.visit.proofs.DueCount.{count-starts, count-stops, count-goes, count-ends}
 use Rattle.visit.proofs.delivering.due_count.Goals as goal
 
 pub loop-last-init : goal.loop-last-init

@@ -1,10 +1,7 @@
 use Prim.Native.Nat.{ℕ, ◌-◌}
-use mathlib.Core.Path.{sym, ◌∙◌}
-use mathlib.Core.List.{List, []}
-use borrow.Author.Tests.{not-true, not-false}
-use borrow.Author.Rules.{rules}
+use mathlib.Core.List.{List}
 use Rattle.record.specs.inner.Head.{log_on}
-use Rattle.visit.proofs.DueCount.{Counted, count-starts, count-stops, count-goes, count-ends}
+use Rattle.visit.proofs.DueCount.{Counted}
 use Rattle.visit.proofs.delivering.due_count.Given as goal
 
 abbrev pub invariant-loop-last : goal.invariant-loop-last

@@ -1,7 +1,6 @@
 use mathlib.Core.Path.{◌∙◌}
 use native.Mathlib.Nat.{zero-add}
 use native.Mathlib.Omega.{arith}
-use borrow.Author.Rules.{rules}
 use Rattle.record.specs.inner.Head.{log_on}
 use Rattle.record.specs.declared.log.Log.{Log}
 use Rattle.visit.proofs.DueCount.{due-fits, run-handed}

@@ -2,7 +2,6 @@ use mathlib.Core.Path.{ap}
 use native.Mathlib.Omega.{arith}
 use lib.ListN.{length}
 use lib.Seq.{length-sets}
-use borrow.Author.Rules.{rules}
 use Rattle.record.specs.inner.Head.{log_on}
 use Rattle.record.specs.declared.log.Log.{Log}
 use Rattle.visit.proofs.KeptLaws.{kept-short, kept_put}

@@ -1,4 +1,3 @@
-use borrow.Author.Rules.{rules}
 use Rattle.visit.specs.Visit.{new_count, allowance, round_allowance, others, others_backlog}
 use Rattle.visit.proofs.flow.new_count.Goals as goal
 

@@ -1,5 +1,4 @@
 use native.Mathlib.Omega.{arith}
-use borrow.Author.Rules.{rules}
 use Rattle.visit.proofs.flow.round_allowance.Goals as goal
 
 pub returns-then-others-ge-MOST_IN_ROUND : goal.returns-then-others-ge-MOST_IN_ROUND

@@ -1,4 +1,3 @@
-use borrow.Author.Rules.{rules}
 use Rattle.visit.proofs.flow.sum_after.Goals as goal
 
 pub returns : goal.returns

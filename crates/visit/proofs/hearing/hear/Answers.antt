@@ -1,6 +1,5 @@
 use mathlib.Core.Path.{refl, sym, ap, ◌∙◌}
 use native.Mathlib.Omega.{arith}
-use borrow.Author.Rules.{rules}
 use Rattle.record.specs.inner.Head.{log_on, posts_on, record_in, contents_in}
 use Rattle.record.specs.Layout.{log_at}
 use Rattle.record.specs.declared.Record.{Record}

@@ -1,4 +1,3 @@
-use borrow.Author.Rules.{rules}
 use Rattle.record.specs.Held.{holds}
 use Rattle.visit.specs.Message.{is_had}
 use Rattle.visit.proofs.hearing.is_had.Goals as goal

@@ -1,5 +1,4 @@
 use mathlib.Core.Path.{ap, ◌∙◌}
-use borrow.Author.Rules.{rules}
 use Rattle.record.specs.inner.Head.{log_on, contents_in}
 use Rattle.record.specs.Layout.{log_at}
 use Rattle.record.specs.declared.head.LogHead.{LogHead}

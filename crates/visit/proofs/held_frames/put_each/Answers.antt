@@ -1,10 +1,9 @@
-use Prim.Native.Nat.{◌≤◌, ◌-◌}
-use lib.ListN.{length, drop, drop_of_length-le}
+use lib.ListN.{drop_of_length-le}
 use borrow.Author.Rules.{rules}
-use Rattle.record.specs.inner.Head.{log_on, held_from}
+use Rattle.record.specs.inner.Head.{log_on}
 use Rattle.record.specs.declared.log.Log.{Log}
 use Rattle.visit.proofs.FrameLaws.{Writable}
-use Rattle.visit.proofs.PutFrames.{all-frameable, put-log, Putting, putting-starts, putting-next, putting-goes, putting-ends, from_next}
+use Rattle.visit.proofs.PutFrames.{all-frameable, put-log, putting-starts, putting-next, putting-goes, putting-ends, from_next}
 use Rattle.visit.proofs.held_frames.put_each.Goals as goal
 use Rattle.visit.proofs.held_frames.put_each.Goals.{Start}
 

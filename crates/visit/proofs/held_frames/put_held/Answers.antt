@@ -1,5 +1,4 @@
 use native.Mathlib.Omega.{arith}
-use borrow.Author.Rules.{rules}
 use Rattle.record.specs.declared.log.Held.{Held}
 use Rattle.record.specs.inner.Head.{held_from}
 use Rattle.visit.proofs.PutFrames.{held-content, held-short}

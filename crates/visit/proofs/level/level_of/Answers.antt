@@ -1,13 +1,6 @@
-use Prim.Native.Nat.{◌+◌}
 use mathlib.Core.Path.{sym, ◌∙◌}
-use mathlib.Core.Bool.{not, ◌&&◌}
-use lib.ListN.{get_or}
-use lib.Dec.{ltb, leb, eqb}
-use borrow.Author.Rules.{rules}
 use borrow.Author.Tests.{not-true, not-false}
-use Rattle.record.specs.Size.{most_held}
-use Rattle.record.specs.Held.{place_of}
-use Rattle.visit.proofs.HearLaws.{Rising, rise-starts, rise-stops, rise-goes, rise-ends}
+use Rattle.visit.proofs.HearLaws.{rise-starts, rise-stops, rise-goes, rise-ends}
 use Rattle.visit.proofs.level.level_of.Goals as goal
 
 pub loop-most-init : goal.loop-most-init

@@ -1,5 +1,4 @@
 use mathlib.Core.Path.{ap, ◌∙◌}
-use borrow.Author.Rules.{rules}
 use Rattle.record.specs.inner.Head.{log_on}
 use Rattle.record.specs.declared.head.LogHead.{LogHead}
 use Rattle.visit.proofs.HearLaws.{raised-as}

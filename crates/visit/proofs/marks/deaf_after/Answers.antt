@@ -1,4 +1,3 @@
-use borrow.Author.Rules.{rules}
 use Rattle.visit.proofs.marks.deaf_after.Goals as goal
 
 pub returns-then-stall-is_own : goal.returns-then-stall-is_own

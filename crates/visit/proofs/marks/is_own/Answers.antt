@@ -1,4 +1,3 @@
-use borrow.Author.Rules.{rules}
 use Rattle.visit.proofs.marks.is_own.Goals as goal
 
 pub returns-in-Member : goal.returns-in-Member

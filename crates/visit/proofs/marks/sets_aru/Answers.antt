@@ -1,4 +1,3 @@
-use borrow.Author.Rules.{rules}
 use Rattle.visit.proofs.marks.sets_aru.Goals as goal
 
 pub returns : goal.returns

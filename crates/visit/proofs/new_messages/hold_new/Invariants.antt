@@ -1,12 +1,7 @@
 use Prim.Native.Nat.{◌-◌}
-use mathlib.Core.Path.{◌∙◌}
-use native.Mathlib.Omega.{arith}
-use borrow.Author.Rules.{rules}
 use Rattle.record.specs.inner.Head.{record_in, contents_in, head_with}
 use Rattle.record.specs.Layout.{log_at}
-use Rattle.record.specs.declared.posts.Posts.{Posts}
-use Rattle.record.proofs.RangeFacts.{PostsRange, posts-range}
-use Rattle.visit.proofs.HoldNew.{Heading, heading-starts, heading-goes, heading-ends}
+use Rattle.visit.proofs.HoldNew.{Heading}
 use Rattle.visit.proofs.new_messages.hold_new.Given as goal
 
 abbrev pub invariant-loop-i : goal.invariant-loop-i

@@ -1,16 +1,11 @@
-use Prim.Native.Nat.{ℕ, ◌-◌}
-use mathlib.Core.Path.{◌≡◌, refl, ◌∙◌}
-use mathlib.Core.List.{List}
+use mathlib.Core.Path.{refl, ◌∙◌}
 use native.Mathlib.Omega.{arith}
-use lib.ListN.{length, drop}
-use borrow.Author.Rules.{rules}
-use Rattle.record.specs.inner.Head.{posts_on, contents_in, waiting_in}
-use Rattle.record.specs.Layout.{record_size, log_at, turn_at, posts_at}
-use Rattle.record.specs.declared.head.LogHead.{LogHead}
+use Rattle.record.specs.inner.Head.{posts_on, waiting_in}
+use Rattle.record.specs.Layout.{posts_at}
 use Rattle.record.specs.declared.posts.Posts.{Posts}
 use Rattle.record.proofs.PartLaws.{waiting_stays}
 use Rattle.record.proofs.RangeFacts.{PostsRange, posts-range}
-use Rattle.visit.proofs.HoldNew.{posts_in, Placing, placing-starts, placing-goes, placing-ends}
+use Rattle.visit.proofs.HoldNew.{placing-starts, placing-goes, placing-ends}
 use Rattle.visit.proofs.new_messages.place_new.Goals as goal
 use Rattle.visit.proofs.new_messages.place_new.Goals.{Start}
 

@@ -1,16 +1,11 @@
-use Prim.Native.Nat.{ℕ, ◌-◌, ◌≤◌}
 use mathlib.Core.Path.{◌≡◌, refl}
-use mathlib.Core.Bool.{not, ◌&&◌}
-use mathlib.Core.List.{List}
 use native.Mathlib.Nat.{sub-zero}
 use native.Mathlib.Omega.{arith}
-use lib.ListN.{length, take}
+use lib.ListN.{length}
 use borrow.Author.Rules.{rules}
-use Rattle.words.specs.Scan.{lacks}
 use Rattle.frames.specs.Layout.{most_requests}
-use Rattle.record.specs.inner.Head.{log_on}
 use Rattle.record.specs.Held.{holds}
-use Rattle.visit.proofs.ListedLaws.{Adding, adding-starts, adding-adds, adding-skips, adding-full, adding-ends, wanted}
+use Rattle.visit.proofs.ListedLaws.{adding-starts, adding-adds, adding-skips, adding-full, adding-ends, wanted}
 use Rattle.visit.proofs.requests.add_missing.Goals as goal
 
 pub loop-last-init : goal.loop-last-init

@@ -1,16 +1,12 @@
 use Prim.Native.Nat.{ℕ, ◌-◌, ◌≤◌}
-use mathlib.Core.Path.{◌≡◌, refl}
 use mathlib.Core.Bool.{not, ◌&&◌}
 use mathlib.Core.List.{List}
-use native.Mathlib.Nat.{sub-zero}
-use native.Mathlib.Omega.{arith}
-use lib.ListN.{length, take}
-use borrow.Author.Rules.{rules}
+use lib.ListN.{take}
 use Rattle.words.specs.Scan.{lacks}
 use Rattle.frames.specs.Layout.{most_requests}
 use Rattle.record.specs.inner.Head.{log_on}
 use Rattle.record.specs.Held.{holds}
-use Rattle.visit.proofs.ListedLaws.{Adding, adding-starts, adding-adds, adding-skips, adding-full, adding-ends, wanted}
+use Rattle.visit.proofs.ListedLaws.{Adding}
 use Rattle.visit.proofs.requests.add_missing.Given as goal
 
 abbrev pub invariant-loop-last : goal.invariant-loop-last

@@ -1,15 +1,12 @@
-use Prim.Native.Nat.{ℕ, ◌-◌, ◌<◌}
+use Prim.Native.Nat.{◌<◌}
 use mathlib.Core.Path.{refl, sym, ap, ◌∙◌}
-use mathlib.Core.List.{List, []}
-use lib.ListN.{length}
-use mathlib.Core.Logic.{⊎_elim}
+use mathlib.Core.List.{[]}
 use mathlib.Core.Bool.{not}
 use borrow.Author.Rules.{rules}
 use Rattle.frames.specs.Layout.{most_requests}
-use Rattle.record.specs.inner.Head.{log_on}
 use Rattle.record.specs.Held.{holds}
 use Rattle.visit.specs.inner.Steps.{listed}
-use Rattle.visit.proofs.ListedLaws.{Gathered, gathered_none, gathered-few, gathered-takes, gathered-leaves, gathered-all}
+use Rattle.visit.proofs.ListedLaws.{gathered_none, gathered-few, gathered-takes, gathered-leaves, gathered-all}
 use Rattle.visit.proofs.requests.split_requests.Goals as goal
 use Rattle.visit.proofs.requests.split_requests.Goals.{After-is_held, then-is_held, else-is_held}
 
@@ -48,7 +45,7 @@ loop-i-preserved c = λ contents.
     let few = c.requires.1 in
     let known = sym c.is_held.ensures in
     elim c.if-is_held.branch [
-      then-is_held w ↦ (
+      | then-is_held w ↦ (
         gathered-takes _ _ _ _ at.0 more few (known ∙ w.if-is_held.true) (rw (w.held-is, w.repeats-is)),
         gathered-leaves _ _ _ _ at.1 more few (ap not (known ∙ w.if-is_held.true)) (rw (w.rest-is, w.left-is)),
       )

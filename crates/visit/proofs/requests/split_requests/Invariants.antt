@@ -1,15 +1,10 @@
-use Prim.Native.Nat.{ℕ, ◌-◌, ◌<◌}
-use mathlib.Core.Path.{refl, sym, ap, ◌∙◌}
-use mathlib.Core.List.{List, []}
+use Prim.Native.Nat.{ℕ, ◌-◌}
+use mathlib.Core.List.{List}
 use lib.ListN.{length}
-use mathlib.Core.Logic.{⊎_elim}
 use mathlib.Core.Bool.{not}
-use borrow.Author.Rules.{rules}
-use Rattle.frames.specs.Layout.{most_requests}
 use Rattle.record.specs.inner.Head.{log_on}
 use Rattle.record.specs.Held.{holds}
-use Rattle.visit.specs.inner.Steps.{listed}
-use Rattle.visit.proofs.ListedLaws.{Gathered, gathered_none, gathered-few, gathered-takes, gathered-leaves, gathered-all}
+use Rattle.visit.proofs.ListedLaws.{Gathered}
 use Rattle.visit.proofs.requests.split_requests.Given as goal
 
 abbrev pub invariant-loop-i : goal.invariant-loop-i

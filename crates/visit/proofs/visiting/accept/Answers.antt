@@ -1,6 +1,5 @@
 use mathlib.Core.Path.{ap, ◌∙◌}
 use native.Mathlib.Omega.{arith}
-use borrow.Author.Rules.{rules}
 use Rattle.record.specs.Bytes.{record_bytes}
 use Rattle.record.specs.inner.Head.{posts_on, record_in}
 use Rattle.record.proofs.PartLaws.{waiting_stays}

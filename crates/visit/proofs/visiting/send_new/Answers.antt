@@ -2,7 +2,6 @@ use Prim.Native.Nat.{◌+◌, ◌-◌, ◌≤◌}
 use mathlib.Core.Path.{◌≡◌}
 use native.Mathlib.Omega.{arith}
 use lib.ListN.{length, drop, length-take, length-drop}
-use borrow.Author.Rules.{rules}
 use Rattle.frames.specs.Layout.{longest_token}
 use Rattle.record.specs.inner.Head.{log_on, record_in, contents_in}
 use Rattle.record.specs.Layout.{log_at}

@@ -1,5 +1,4 @@
 use native.Mathlib.Omega.{arith}
-use borrow.Author.Rules.{rules}
 use Rattle.words.proofs.RunLaws.{part-stored}
 use Rattle.words.proofs.run.get_bytes.Goals as goal
 

@@ -1,7 +1,5 @@
 use Prim.Native.Nat.{◌-◌}
-use native.Mathlib.Omega.{arith}
-use borrow.Author.Rules.{rules}
-use Rattle.words.proofs.RunLaws.{Reading, reading-starts, reading-goes, reading-ends}
+use Rattle.words.proofs.RunLaws.{Reading}
 use Rattle.words.proofs.run.get_u32s.Given as goal
 
 abbrev pub invariant-loop-i : goal.invariant-loop-i

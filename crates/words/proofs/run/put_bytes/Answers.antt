@@ -1,8 +1,5 @@
-use Prim.Native.Nat.{◌+◌, ◌-◌, ◌≤◌}
-use mathlib.Core.Path.{◌≡◌, refl, sym, ◌∙◌}
-use lib.ListN.{length, drop}
+use mathlib.Core.Path.{refl, sym, ◌∙◌}
 use borrow.Author.Rules.{rules}
-use lib.Seq.{sets}
 use Rattle.words.proofs.RunLaws.{copying-goes}
 use lib.ListN.{drop_of_length-le}
 use native.Mathlib.Nat.{add-zero}

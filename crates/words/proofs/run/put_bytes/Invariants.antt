@@ -1,11 +1,7 @@
 use Prim.Native.Nat.{◌+◌, ◌-◌, ◌≤◌}
-use mathlib.Core.Path.{◌≡◌, refl, sym, ◌∙◌}
+use mathlib.Core.Path.{◌≡◌}
 use lib.ListN.{length, drop}
-use borrow.Author.Rules.{rules}
 use lib.Seq.{sets}
-use Rattle.words.proofs.RunLaws.{copying-goes}
-use lib.ListN.{drop_of_length-le}
-use native.Mathlib.Nat.{add-zero}
 use Rattle.words.proofs.run.put_bytes.Given as goal
 
 abbrev pub invariant-loop-i : goal.invariant-loop-i

@@ -1,5 +1,4 @@
 use native.Mathlib.Omega.{arith}
-use borrow.Author.Rules.{rules}
 use Rattle.words.proofs.StoreLaws.{piece-ends}
 use Rattle.words.proofs.run.put_few.Goals as goal
 

@@ -1,8 +1,5 @@
-use Prim.Native.Nat.{◌-◌, ◌≤◌}
-use mathlib.Core.Path.{◌≡◌, refl}
+use mathlib.Core.Path.{refl}
 use native.Mathlib.Omega.{arith}
-use lib.ListN.{length, take}
-use lib.Seq.{sets}
 use borrow.Author.Rules.{rules}
 use Rattle.words.proofs.StoreLaws.{piece-goes, piece-ends}
 use Rattle.words.proofs.run.put_many.Goals as goal

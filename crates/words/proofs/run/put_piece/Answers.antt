@@ -1,5 +1,4 @@
 use native.Mathlib.Nat.{sub-zero}
-use borrow.Author.Rules.{rules}
 use Rattle.words.proofs.StoreLaws.{piece-put}
 use Rattle.words.proofs.run.put_piece.Goals as goal
 

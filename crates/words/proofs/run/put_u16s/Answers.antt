@@ -1,7 +1,4 @@
-use Prim.Native.Nat.{◌-◌}
-use lib.ListN.{length}
-use borrow.Author.Rules.{rules}
-use Rattle.words.proofs.RunLaws.{Storing, storing-starts, storing-goes, storing-ends}
+use Rattle.words.proofs.RunLaws.{storing-starts, storing-goes, storing-ends}
 use Rattle.words.proofs.run.put_u16s.Goals as goal
 
 pub loop-i-init : goal.loop-i-init

@@ -1,7 +1,6 @@
 use Prim.Native.Nat.{◌-◌}
 use lib.ListN.{length}
-use borrow.Author.Rules.{rules}
-use Rattle.words.proofs.RunLaws.{Storing, storing-starts, storing-goes, storing-ends}
+use Rattle.words.proofs.RunLaws.{Storing}
 use Rattle.words.proofs.run.put_u32s.Given as goal
 
 abbrev pub invariant-loop-i : goal.invariant-loop-i

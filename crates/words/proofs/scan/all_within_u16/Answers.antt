@@ -1,9 +1,4 @@
-use Prim.Native.Nat.{◌-◌}
-use mathlib.Core.Bool.{◌&&◌}
-use lib.ListN.{length}
-use borrow.Author.Rules.{rules}
-use Rattle.words.proofs.ScanLaws.{Gathering, gather-starts, gather-goes, gather-ends}
-use lib.Dec.{leb}
+use Rattle.words.proofs.ScanLaws.{gather-starts, gather-goes, gather-ends}
 use Rattle.words.proofs.scan.all_within_u16.Goals as goal
 
 pub loop-i-init : goal.loop-i-init

@@ -1,8 +1,7 @@
 use Prim.Native.Nat.{◌-◌}
 use mathlib.Core.Bool.{◌&&◌}
 use lib.ListN.{length}
-use borrow.Author.Rules.{rules}
-use Rattle.words.proofs.ScanLaws.{Gathering, gather-starts, gather-goes, gather-ends}
+use Rattle.words.proofs.ScanLaws.{Gathering}
 use lib.Dec.{leb}
 use Rattle.words.proofs.scan.all_within_u8.Given as goal
 

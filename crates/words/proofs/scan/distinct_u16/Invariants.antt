@@ -1,9 +1,6 @@
 use Prim.Native.Nat.{◌-◌}
-use mathlib.Core.Path.{sym, ◌∙◌}
 use lib.ListN.{length}
-use borrow.Author.Rules.{rules}
-use borrow.Author.Tests.{not-true, not-false}
-use Rattle.words.proofs.ScanLaws.{Scanning, scan-starts, scan-stops, scan-goes, scan-ends, to-end}
+use Rattle.words.proofs.ScanLaws.{Scanning}
 use Rattle.words.specs.Scan.{lacks}
 use Rattle.words.proofs.scan.distinct_u16.Given as goal
 

@@ -1,10 +1,5 @@
-use Prim.Native.Nat.{◌-◌}
-use mathlib.Core.Bool.{not}
-use lib.ListN.{length}
-use borrow.Author.Rules.{rules}
 use borrow.Author.Tests.{not-true, not-false}
-use Rattle.words.proofs.ScanLaws.{Scanning, scan-starts, scan-stops, scan-goes, scan-ends}
-use lib.Dec.{eqb}
+use Rattle.words.proofs.ScanLaws.{scan-starts, scan-stops, scan-goes, scan-ends}
 use Rattle.words.proofs.scan.lacks_u32.Goals as goal
 
 pub loop-i-init : goal.loop-i-init

@@ -1,5 +1,4 @@
 use native.Mathlib.Omega.{arith}
-use borrow.Author.Rules.{rules}
 use Rattle.words.proofs.WordLaws.{word-join}
 use Rattle.words.proofs.word.get_u16.Goals as goal
 

@@ -1,5 +1,4 @@
 use native.Mathlib.Omega.{arith}
-use borrow.Author.Rules.{rules}
 use Rattle.words.proofs.WordLaws.{byte_at}
 use Rattle.words.proofs.word.get_u8.Goals as goal
 

@@ -1,4 +1,3 @@
-use borrow.Author.Rules.{rules}
 use Rattle.words.proofs.WordLaws.{word-stored}
 use Rattle.words.proofs.word.put_u32.Goals as goal
 
