@@ -37,10 +37,24 @@ fn start() -> Script {
 }
 
 // What a whole line asks for is done, with the bytes that it kept.
-fn act(rt: &(impl Print + Eprint), bench: Bench, ended: Line, kept: &[u8], records: &mut [u8], out: &mut [u8]) -> Script {
+fn act(
+    rt: &(impl Print + Eprint),
+    bench: Bench,
+    ended: Line,
+    kept: &[u8],
+    records: &mut [u8],
+    out: &mut [u8],
+) -> Script {
     let fields = ended.fields;
     let command = command::end_line(ended);
-    let b = run::run(rt, bench, command, kept::first(kept, fields.used), records, out);
+    let b = run::run(
+        rt,
+        bench,
+        command,
+        kept::first(kept, fields.used),
+        records,
+        out,
+    );
     let r = b.ring;
     let o = b.output;
     Script {
@@ -54,13 +68,26 @@ fn act(rt: &(impl Print + Eprint), bench: Bench, ended: Line, kept: &[u8], recor
     }
 }
 
-fn end_line(rt: &(impl Print + Eprint), s: Script, kept: &mut [u8], records: &mut [u8], out: &mut [u8]) -> Script {
+fn end_line(
+    rt: &(impl Print + Eprint),
+    s: Script,
+    kept: &mut [u8],
+    records: &mut [u8],
+    out: &mut [u8],
+) -> Script {
     let bench = s.bench;
     let ended = line::ended(s.line, kept);
     act(rt, bench, ended, kept, records, out)
 }
 
-fn take_byte(rt: &(impl Print + Eprint), s: Script, b: u8, kept: &mut [u8], records: &mut [u8], out: &mut [u8]) -> Script {
+fn take_byte(
+    rt: &(impl Print + Eprint),
+    s: Script,
+    b: u8,
+    kept: &mut [u8],
+    records: &mut [u8],
+    out: &mut [u8],
+) -> Script {
     if b == b'\n' {
         return end_line(rt, s, kept, records, out);
     }
@@ -177,7 +204,15 @@ fn main(rt: HostRuntime) {
     let mut kept = [0u8; kept::KEPT_ROOM];
     let mut records = [0u8; RECORDS_ROOM];
     let mut out = [0u8; OUTPUT_ROOM];
-    let s = read_all(&rt, &mut stream, start(), &mut input, &mut kept, &mut records, &mut out);
+    let s = read_all(
+        &rt,
+        &mut stream,
+        start(),
+        &mut input,
+        &mut kept,
+        &mut records,
+        &mut out,
+    );
     let s = end_line(&rt, s, &mut kept, &mut records, &mut out);
     let b = s.bench;
     output::flush(&rt, &out, b.output);

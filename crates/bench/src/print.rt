@@ -74,7 +74,13 @@ pub fn refusal(rt: &(impl Print + Eprint), out: &mut [u8], o: Output, number: u1
 }
 
 // One delivered frame.
-fn delivery(rt: &(impl Print + Eprint), out: &mut [u8], o: Output, place: u32, frame: &[u8]) -> Output {
+fn delivery(
+    rt: &(impl Print + Eprint),
+    out: &mut [u8],
+    o: Output,
+    place: u32,
+    frame: &[u8],
+) -> Output {
     let reading = frames::read(frame);
     let answer = reading.answer;
     let o = output::make_room(rt, out, o);
@@ -90,7 +96,13 @@ fn delivery(rt: &(impl Print + Eprint), out: &mut [u8], o: Output, place: u32, f
 }
 
 // All frames that a place has handed out, one after another.
-pub fn deliveries(rt: &(impl Print + Eprint), out: &mut [u8], o: Output, place: u32, handed: &[u8]) -> Output {
+pub fn deliveries(
+    rt: &(impl Print + Eprint),
+    out: &mut [u8],
+    o: Output,
+    place: u32,
+    handed: &[u8],
+) -> Output {
     let mut o = o;
     let mut from = 0;
     while from < handed.len() {

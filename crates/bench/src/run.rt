@@ -29,7 +29,14 @@ fn no_place(rt: &impl Eprint, b: Bench) -> Bench {
     wrong(rt, b, Fault::NoPlace)
 }
 
-fn found(rt: &(impl Print + Eprint), b: Bench, number: u32, ids: &[u8], records: &mut [u8], out: &mut [u8]) -> Bench {
+fn found(
+    rt: &(impl Print + Eprint),
+    b: Bench,
+    number: u32,
+    ids: &[u8],
+    records: &mut [u8],
+    out: &mut [u8],
+) -> Bench {
     let mut token = [0u8; frames::LONGEST_TOKEN];
     let answer = ring::found_ring(records, ids, RingNumber(number), &mut token);
     let r = b.ring;
@@ -106,7 +113,13 @@ fn arrive(
 }
 
 // The newest token to its addressee; nothing reaches the place `without`.
-fn turn(rt: &(impl Print + Eprint), b: Bench, without: usize, records: &mut [u8], out: &mut [u8]) -> Bench {
+fn turn(
+    rt: &(impl Print + Eprint),
+    b: Bench,
+    without: usize,
+    records: &mut [u8],
+    out: &mut [u8],
+) -> Bench {
     let r = b.ring;
     let token = r.token;
     let size = r.token_size;
@@ -114,7 +127,15 @@ fn turn(rt: &(impl Print + Eprint), b: Bench, without: usize, records: &mut [u8]
     if place == without {
         return b;
     }
-    arrive(rt, b, place, without, kept::first(&token, size), records, out)
+    arrive(
+        rt,
+        b,
+        place,
+        without,
+        kept::first(&token, size),
+        records,
+        out,
+    )
 }
 
 // No place is without the token.
@@ -126,7 +147,13 @@ fn turn_for_all(rt: &(impl Print + Eprint), b: Bench, records: &mut [u8], out: &
     turn(rt, b, r.members, records, out)
 }
 
-fn turn_without(rt: &(impl Print + Eprint), b: Bench, without: usize, records: &mut [u8], out: &mut [u8]) -> Bench {
+fn turn_without(
+    rt: &(impl Print + Eprint),
+    b: Bench,
+    without: usize,
+    records: &mut [u8],
+    out: &mut [u8],
+) -> Bench {
     let r = b.ring;
     if r.members <= without {
         return no_place(rt, b);
@@ -134,7 +161,14 @@ fn turn_without(rt: &(impl Print + Eprint), b: Bench, without: usize, records: &
     turn(rt, b, without, records, out)
 }
 
-fn frame(rt: &(impl Print + Eprint), b: Bench, place: usize, frame: &[u8], records: &mut [u8], out: &mut [u8]) -> Bench {
+fn frame(
+    rt: &(impl Print + Eprint),
+    b: Bench,
+    place: usize,
+    frame: &[u8],
+    records: &mut [u8],
+    out: &mut [u8],
+) -> Bench {
     let r = b.ring;
     if r.members <= place {
         return no_place(rt, b);
@@ -153,11 +187,26 @@ fn write(rt: &(impl Print + Eprint), b: Bench, count: u16, out: &mut [u8]) -> Be
 }
 
 // A command, with the bytes that its line kept.
-pub fn run(rt: &(impl Print + Eprint), b: Bench, command: Command, kept: &[u8], records: &mut [u8], out: &mut [u8]) -> Bench {
+pub fn run(
+    rt: &(impl Print + Eprint),
+    b: Bench,
+    command: Command,
+    kept: &[u8],
+    records: &mut [u8],
+    out: &mut [u8],
+) -> Bench {
     match command {
         Command::Nothing => b,
         Command::Found(number) => found(rt, b, number, kept, records, out),
-        Command::Post { place, service } => post(rt, b, place as usize, service, kept, records, out),
+        Command::Post { place, service } => post(
+            rt,
+            b,
+            place as usize,
+            service,
+            kept,
+            records,
+            out,
+        ),
         Command::Turn => turn_for_all(rt, b, records, out),
         Command::TurnWithout(place) => turn_without(rt, b, place as usize, records, out),
         Command::Arrive(place) => frame(rt, b, place as usize, kept, records, out),

@@ -1,4 +1,4 @@
-use Rattle.std.proofs.Common.{sym, arith, take_all, rules}
+use Rattle.std.proofs.Common.{sym, arith, take_all}
 use native.Mathlib.Nat.{sub-zero}
 use Rattle.bench.proofs.kept.first.Goals as goal
 

@@ -1,4 +1,4 @@
-use Rattle.std.proofs.Common.{arith, rules}
+use Rattle.std.proofs.Common.{arith}
 use Rattle.bench.proofs.NumberLaws.{none-low, digit-is, none_between, upper_is, none-gap, lower-is, none-high}
 use Rattle.bench.proofs.number.hex_value.Goals as goal
 

@@ -1,4 +1,4 @@
-use Rattle.std.proofs.Common.{◌≡◌, ◌+◌, ◌-◌, ◌≤◌, length, arith, rules}
+use Rattle.std.proofs.Common.{arith, rules}
 use Rattle.ring.proofs.places.CutLaws.{first-inside, first_some}
 use Rattle.bench.proofs.print.deliveries.Goals as goal
 

@@ -1,5 +1,4 @@
-use Rattle.std.proofs.Common.{◌≡◌, ◌+◌, ◌-◌, ◌≤◌, length, arith, rules}
-use Rattle.ring.proofs.places.CutLaws.{first-inside, first_some}
+use Rattle.std.proofs.Common.{◌≡◌, ◌-◌, ◌≤◌, length}
 use Rattle.bench.proofs.print.deliveries.Given as goal
 
 abbrev pub invariant-loop-from : goal.invariant-loop-from

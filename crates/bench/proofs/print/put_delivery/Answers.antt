@@ -1,4 +1,3 @@
-use Rattle.std.proofs.Common.{rules}
 use Rattle.text.proofs.PutLaws.{put_then}
 use Rattle.bench.specs.Print.{delivery_line}
 use Rattle.bench.proofs.print.put_delivery.Goals as goal

@@ -1,4 +1,3 @@
-use Rattle.std.proofs.Common.{rules}
 use Rattle.text.proofs.PutLaws.{put_then}
 use Rattle.bench.proofs.print.put_ended.Goals as goal
 

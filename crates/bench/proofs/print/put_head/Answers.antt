@@ -1,4 +1,3 @@
-use Rattle.std.proofs.Common.{rules}
 use Rattle.text.proofs.PutLaws.{put_then}
 use Rattle.bench.specs.Print.{delivery_head}
 use Rattle.bench.proofs.print.put_head.Goals as goal

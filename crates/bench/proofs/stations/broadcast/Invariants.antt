@@ -1,4 +1,4 @@
-use Rattle.std.proofs.Common.{◌≡◌, ◌-◌, length, rules}
+use Rattle.std.proofs.Common.{◌≡◌, ◌-◌, length}
 use Rattle.bench.proofs.stations.broadcast.Given as goal
 
 abbrev pub invariant-loop-place : goal.invariant-loop-place
