@@ -12,9 +12,9 @@ mod run;
 mod sizes;
 mod stations;
 
-use libc::STDIN_FILENO;
 use line::Line;
 use run::Bench;
+use std::io::Read;
 
 // The script's place, the line that is being read, and whether nothing more is read.
 #[derive(Clone, Copy)]
@@ -37,32 +37,59 @@ fn start() -> Script {
 }
 
 // What a whole line asks for is done, with the bytes that it kept.
-fn act(bench: Bench, ended: Line, kept: &[u8], records: &mut [u8], out: &mut [u8]) -> Script {
+fn act(
+    rt: &(impl Print + Eprint),
+    bench: Bench,
+    ended: Line,
+    kept: &[u8],
+    records: &mut [u8],
+    out: &mut [u8],
+) -> Script {
     let fields = ended.fields;
     let command = command::end_line(ended);
-    let b = run::run(bench, command, kept::first(kept, fields.used), records, out);
+    let b = run::run(
+        rt,
+        bench,
+        command,
+        kept::first(kept, fields.used),
+        records,
+        out,
+    );
     let r = b.ring;
     let o = b.output;
     Script {
         bench: Bench {
             ring: r,
             output: o,
-            line: std::num::wrapping_add_u64(b.line, 1),
+            line: b.line.wrapping_add(1),
         },
         line: line::new_line(),
         is_over: o.is_broken,
     }
 }
 
-fn end_line(s: Script, kept: &mut [u8], records: &mut [u8], out: &mut [u8]) -> Script {
+fn end_line(
+    rt: &(impl Print + Eprint),
+    s: Script,
+    kept: &mut [u8],
+    records: &mut [u8],
+    out: &mut [u8],
+) -> Script {
     let bench = s.bench;
     let ended = line::ended(s.line, kept);
-    act(bench, ended, kept, records, out)
+    act(rt, bench, ended, kept, records, out)
 }
 
-fn take_byte(s: Script, b: u8, kept: &mut [u8], records: &mut [u8], out: &mut [u8]) -> Script {
+fn take_byte(
+    rt: &(impl Print + Eprint),
+    s: Script,
+    b: u8,
+    kept: &mut [u8],
+    records: &mut [u8],
+    out: &mut [u8],
+) -> Script {
     if b == b'\n' {
-        return end_line(s, kept, records, out);
+        return end_line(rt, s, kept, records, out);
     }
     let bench = s.bench;
     Script {
@@ -73,6 +100,7 @@ fn take_byte(s: Script, b: u8, kept: &mut [u8], records: &mut [u8], out: &mut [u
 }
 
 fn take_bytes(
+    rt: &(impl Print + Eprint),
     s: Script,
     input: &[u8],
     kept: &mut [u8],
@@ -82,7 +110,7 @@ fn take_bytes(
     let mut s = s;
     let mut i = 0;
     while i < input.len() {
-        s = take_byte(s, input[i], kept, records, out);
+        s = take_byte(rt, s, input[i], kept, records, out);
         i += 1;
     }
     s
@@ -90,24 +118,27 @@ fn take_bytes(
 
 const INPUT_ROOM: usize = 65536;
 
-// Reads once, and answers how many bytes came; none is the end.
-fn read_some(input: &mut [u8]) -> usize {
-    let got = libc::read(STDIN_FILENO, input);
-    if got < 0 {
-        os::fail(b"standard input");
+// Reads once, and answers how many bytes came; none is the end. A read that fails is reported, and is
+// the end too.
+fn read_some(rt: &impl Eprint, stream: &mut impl Read, input: &mut [u8]) -> usize {
+    match stream.read(input) {
+        Ok(n) => n,
+        Err(e) => {
+            let _ = eprintln!(rt; "standard input: {e}");
+            0
+        }
     }
-    io::count(got, input)
 }
 
 // What is printed so far goes out before more input is waited for.
-fn shown(s: Script, out: &[u8]) -> Script {
+fn shown(rt: &(impl Print + Eprint), s: Script, out: &[u8]) -> Script {
     let bench = s.bench;
     let line = s.line;
     let r = bench.ring;
     Script {
         bench: Bench {
             ring: r,
-            output: output::flush(out, bench.output),
+            output: output::flush(rt, out, bench.output),
             line: bench.line,
         },
         line,
@@ -117,14 +148,16 @@ fn shown(s: Script, out: &[u8]) -> Script {
 
 // Reads once, and does what the lines that are whole then ask for.
 fn take_turn(
+    rt: &(impl Print + Eprint),
+    stream: &mut impl Read,
     s: Script,
     input: &mut [u8],
     kept: &mut [u8],
     records: &mut [u8],
     out: &mut [u8],
 ) -> Script {
-    let s = shown(s, out);
-    let n = read_some(input);
+    let s = shown(rt, s, out);
+    let n = read_some(rt, stream, input);
     if n == 0 {
         let bench = s.bench;
         let line = s.line;
@@ -134,12 +167,14 @@ fn take_turn(
             is_over: true,
         };
     }
-    take_bytes(s, kept::first(input, n), kept, records, out)
+    take_bytes(rt, s, kept::first(input, n), kept, records, out)
 }
 
 // A proved loop has to end, and nothing says that the input does. So it counts its turns down, from a
 // number that no run uses up.
 fn read_all(
+    rt: &(impl Print + Eprint),
+    stream: &mut impl Read,
     s: Script,
     input: &mut [u8],
     kept: &mut [u8],
@@ -149,7 +184,7 @@ fn read_all(
     let mut s = s;
     let mut turns = u64::MAX;
     while turns > 0 {
-        s = take_turn(s, input, kept, records, out);
+        s = take_turn(rt, stream, s, input, kept, records, out);
         if s.is_over {
             return s;
         }
@@ -163,13 +198,22 @@ const RECORDS_ROOM: usize = kept::IDS_ROOM / 2 * record::RECORD_SIZE;
 const OUTPUT_ROOM: usize = 65536;
 
 // A last line without a line end is a line too.
-fn main() {
+fn main(rt: HostRuntime) {
+    let mut stream = rt.stdin();
     let mut input = [0u8; INPUT_ROOM];
     let mut kept = [0u8; kept::KEPT_ROOM];
     let mut records = [0u8; RECORDS_ROOM];
     let mut out = [0u8; OUTPUT_ROOM];
-    let s = read_all(start(), &mut input, &mut kept, &mut records, &mut out);
-    let s = end_line(s, &mut kept, &mut records, &mut out);
+    let s = read_all(
+        &rt,
+        &mut stream,
+        start(),
+        &mut input,
+        &mut kept,
+        &mut records,
+        &mut out,
+    );
+    let s = end_line(&rt, s, &mut kept, &mut records, &mut out);
     let b = s.bench;
-    output::flush(&out, b.output);
+    output::flush(&rt, &out, b.output);
 }

@@ -53,8 +53,8 @@ fn put_refusal(out: &mut [u8], at: usize, number: u16) -> usize
 }
 
 // A number on a line.
-pub fn number(out: &mut [u8], o: Output, n: u32) -> Output {
-    let o = output::make_room(out, o);
+pub fn number(rt: &(impl Print + Eprint), out: &mut [u8], o: Output, n: u32) -> Output {
+    let o = output::make_room(rt, out, o);
     Output {
         used: put_number(out, o.used, n),
         is_broken: o.is_broken,
@@ -62,11 +62,11 @@ pub fn number(out: &mut [u8], o: Output, n: u32) -> Output {
 }
 
 // A refusal, unless nothing is refused.
-pub fn refusal(out: &mut [u8], o: Output, number: u16) -> Output {
+pub fn refusal(rt: &(impl Print + Eprint), out: &mut [u8], o: Output, number: u16) -> Output {
     if number == 0 {
         return o;
     }
-    let o = output::make_room(out, o);
+    let o = output::make_room(rt, out, o);
     Output {
         used: put_refusal(out, o.used, number),
         is_broken: o.is_broken,
@@ -74,10 +74,16 @@ pub fn refusal(out: &mut [u8], o: Output, number: u16) -> Output {
 }
 
 // One delivered frame.
-fn delivery(out: &mut [u8], o: Output, place: u32, frame: &[u8]) -> Output {
+fn delivery(
+    rt: &(impl Print + Eprint),
+    out: &mut [u8],
+    o: Output,
+    place: u32,
+    frame: &[u8],
+) -> Output {
     let reading = frames::read(frame);
     let answer = reading.answer;
-    let o = output::make_room(out, o);
+    let o = output::make_room(rt, out, o);
     let used = o.used;
     match answer {
         Answer::IsMessage(m) => Output {
@@ -90,12 +96,18 @@ fn delivery(out: &mut [u8], o: Output, place: u32, frame: &[u8]) -> Output {
 }
 
 // All frames that a place has handed out, one after another.
-pub fn deliveries(out: &mut [u8], o: Output, place: u32, handed: &[u8]) -> Output {
+pub fn deliveries(
+    rt: &(impl Print + Eprint),
+    out: &mut [u8],
+    o: Output,
+    place: u32,
+    handed: &[u8],
+) -> Output {
     let mut o = o;
     let mut from = 0;
     while from < handed.len() {
         let next = from + ring::first_size(&handed[from..]);
-        o = delivery(out, o, place, &handed[from..next]);
+        o = delivery(rt, out, o, place, &handed[from..next]);
         from = next;
     }
     o

@@ -15,21 +15,28 @@ pub struct Bench {
 }
 
 // Nothing changes.
-fn wrong(b: Bench, fault: Fault) -> Bench {
-    output::report(b.line, fault);
+fn wrong(rt: &impl Eprint, b: Bench, fault: Fault) -> Bench {
+    output::report(rt, b.line, fault);
     b
 }
 
 // What is wrong with a place: before `r` there is none.
-fn no_place(b: Bench) -> Bench {
+fn no_place(rt: &impl Eprint, b: Bench) -> Bench {
     let r = b.ring;
     if r.members == 0 {
-        return wrong(b, Fault::NoRing);
+        return wrong(rt, b, Fault::NoRing);
     }
-    wrong(b, Fault::NoPlace)
+    wrong(rt, b, Fault::NoPlace)
 }
 
-fn found(b: Bench, number: u32, ids: &[u8], records: &mut [u8], out: &mut [u8]) -> Bench {
+fn found(
+    rt: &(impl Print + Eprint),
+    b: Bench,
+    number: u32,
+    ids: &[u8],
+    records: &mut [u8],
+    out: &mut [u8],
+) -> Bench {
     let mut token = [0u8; frames::LONGEST_TOKEN];
     let answer = ring::found_ring(records, ids, RingNumber(number), &mut token);
     let r = b.ring;
@@ -37,7 +44,7 @@ fn found(b: Bench, number: u32, ids: &[u8], records: &mut [u8], out: &mut [u8]) 
     if answer.refusal != 0 {
         return Bench {
             ring: r,
-            output: print::refusal(out, o, answer.refusal),
+            output: print::refusal(rt, out, o, answer.refusal),
             line: b.line,
         };
     }
@@ -49,6 +56,7 @@ fn found(b: Bench, number: u32, ids: &[u8], records: &mut [u8], out: &mut [u8]) 
 }
 
 fn post(
+    rt: &(impl Print + Eprint),
     b: Bench,
     place: usize,
     service: u16,
@@ -58,12 +66,12 @@ fn post(
 ) -> Bench {
     let r = b.ring;
     if r.members <= place {
-        return no_place(b);
+        return no_place(rt, b);
     }
     let answer = ring::post_at(records, place, service, content);
     Bench {
         ring: r,
-        output: print::refusal(out, b.output, answer.refusal),
+        output: print::refusal(rt, out, b.output, answer.refusal),
         line: b.line,
     }
 }
@@ -73,6 +81,7 @@ const DELIVERIES_ROOM: usize = record::MOST_BROADCASTS * visit::MOST_DELIVERIES;
 
 // A frame arrives at a place, and what it writes goes on.
 fn arrive(
+    rt: &(impl Print + Eprint),
     b: Bench,
     place: usize,
     without: usize,
@@ -85,6 +94,7 @@ fn arrive(
     let r = b.ring;
     let answer = ring::arrive_at(records, place, frame, &mut frames, &mut deliveries);
     let o = stations::hand_on(
+        rt,
         r,
         answer,
         place,
@@ -103,7 +113,13 @@ fn arrive(
 }
 
 // The newest token to its addressee; nothing reaches the place `without`.
-fn turn(b: Bench, without: usize, records: &mut [u8], out: &mut [u8]) -> Bench {
+fn turn(
+    rt: &(impl Print + Eprint),
+    b: Bench,
+    without: usize,
+    records: &mut [u8],
+    out: &mut [u8],
+) -> Bench {
     let r = b.ring;
     let token = r.token;
     let size = r.token_size;
@@ -111,54 +127,90 @@ fn turn(b: Bench, without: usize, records: &mut [u8], out: &mut [u8]) -> Bench {
     if place == without {
         return b;
     }
-    arrive(b, place, without, kept::first(&token, size), records, out)
+    arrive(
+        rt,
+        b,
+        place,
+        without,
+        kept::first(&token, size),
+        records,
+        out,
+    )
 }
 
 // No place is without the token.
-fn turn_for_all(b: Bench, records: &mut [u8], out: &mut [u8]) -> Bench {
+fn turn_for_all(rt: &(impl Print + Eprint), b: Bench, records: &mut [u8], out: &mut [u8]) -> Bench {
     let r = b.ring;
     if r.members == 0 {
-        return wrong(b, Fault::NoRing);
+        return wrong(rt, b, Fault::NoRing);
     }
-    turn(b, r.members, records, out)
+    turn(rt, b, r.members, records, out)
 }
 
-fn turn_without(b: Bench, without: usize, records: &mut [u8], out: &mut [u8]) -> Bench {
+fn turn_without(
+    rt: &(impl Print + Eprint),
+    b: Bench,
+    without: usize,
+    records: &mut [u8],
+    out: &mut [u8],
+) -> Bench {
     let r = b.ring;
     if r.members <= without {
-        return no_place(b);
+        return no_place(rt, b);
     }
-    turn(b, without, records, out)
+    turn(rt, b, without, records, out)
 }
 
-fn frame(b: Bench, place: usize, frame: &[u8], records: &mut [u8], out: &mut [u8]) -> Bench {
+fn frame(
+    rt: &(impl Print + Eprint),
+    b: Bench,
+    place: usize,
+    frame: &[u8],
+    records: &mut [u8],
+    out: &mut [u8],
+) -> Bench {
     let r = b.ring;
     if r.members <= place {
-        return no_place(b);
+        return no_place(rt, b);
     }
-    arrive(b, place, r.members, frame, records, out)
+    arrive(rt, b, place, r.members, frame, records, out)
 }
 
-fn write(b: Bench, count: u16, out: &mut [u8]) -> Bench {
+fn write(rt: &(impl Print + Eprint), b: Bench, count: u16, out: &mut [u8]) -> Bench {
     let o = b.output;
     let r = b.ring;
     Bench {
         ring: r,
-        output: sizes::write(out, o, count),
+        output: sizes::write(rt, out, o, count),
         line: b.line,
     }
 }
 
 // A command, with the bytes that its line kept.
-pub fn run(b: Bench, command: Command, kept: &[u8], records: &mut [u8], out: &mut [u8]) -> Bench {
+pub fn run(
+    rt: &(impl Print + Eprint),
+    b: Bench,
+    command: Command,
+    kept: &[u8],
+    records: &mut [u8],
+    out: &mut [u8],
+) -> Bench {
     match command {
         Command::Nothing => b,
-        Command::Found(number) => found(b, number, kept, records, out),
-        Command::Post { place, service } => post(b, place as usize, service, kept, records, out),
-        Command::Turn => turn_for_all(b, records, out),
-        Command::TurnWithout(place) => turn_without(b, place as usize, records, out),
-        Command::Arrive(place) => frame(b, place as usize, kept, records, out),
-        Command::Write(count) => write(b, count, out),
-        Command::Wrong(fault) => wrong(b, fault),
+        Command::Found(number) => found(rt, b, number, kept, records, out),
+        Command::Post { place, service } => post(
+            rt,
+            b,
+            place as usize,
+            service,
+            kept,
+            records,
+            out,
+        ),
+        Command::Turn => turn_for_all(rt, b, records, out),
+        Command::TurnWithout(place) => turn_without(rt, b, place as usize, records, out),
+        Command::Arrive(place) => frame(rt, b, place as usize, kept, records, out),
+        Command::Write(count) => write(rt, b, count, out),
+        Command::Wrong(fault) => wrong(rt, b, fault),
     }
 }

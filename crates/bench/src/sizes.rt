@@ -44,11 +44,11 @@ fn asking(count: u16) -> Token {
     }
 }
 
-pub fn write(out: &mut [u8], o: Output, count: u16) -> Output {
+pub fn write(rt: &(impl Print + Eprint), out: &mut [u8], o: Output, count: u16) -> Output {
     let mut frame = [0u8; frames::LONGEST_TOKEN];
     let written = frames::write_token(asking(count), &mut frame);
     match written {
-        Written::Size(n) => print::number(out, o, number::within_u32(n)),
-        Written::Refused(why) => print::refusal(out, o, frames::refusal_number(why)),
+        Written::Size(n) => print::number(rt, out, o, number::within_u32(n)),
+        Written::Refused(why) => print::refusal(rt, out, o, frames::refusal_number(why)),
     }
 }

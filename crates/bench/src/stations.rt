@@ -57,6 +57,7 @@ pub fn addressee(r: Ring) -> usize {
 
 // A visit's broadcasts reach one place, unless it is the visited one or the one that nothing reaches.
 fn reach(
+    rt: &(impl Print + Eprint),
     place: usize,
     visited: usize,
     without: usize,
@@ -74,6 +75,7 @@ fn reach(
     }
     let n = ring::hear_all(records, place, written, deliveries);
     print::deliveries(
+        rt,
         out,
         o,
         number::within_u32(place),
@@ -83,6 +85,7 @@ fn reach(
 
 // A visit's broadcasts reach all other places, in their order.
 fn broadcast(
+    rt: &(impl Print + Eprint),
     members: usize,
     visited: usize,
     without: usize,
@@ -96,7 +99,7 @@ fn broadcast(
     let mut place = 0;
     while place < members {
         o = reach(
-            place, visited, without, written, records, deliveries, out, o,
+            rt, place, visited, without, written, records, deliveries, out, o,
         );
         place += 1;
     }
@@ -105,6 +108,7 @@ fn broadcast(
 
 // An arrival's refusal or deliveries are printed, and its broadcasts reach the others.
 pub fn hand_on(
+    rt: &(impl Print + Eprint),
     r: Ring,
     answer: Outcome,
     visited: usize,
@@ -116,15 +120,16 @@ pub fn hand_on(
     o: Output,
 ) -> Output {
     let written = kept::first(frames, answer.frames as usize);
-    let o = print::refusal(out, o, answer.refusal);
+    let o = print::refusal(rt, out, o, answer.refusal);
     let o = print::deliveries(
+        rt,
         out,
         o,
         number::within_u32(visited),
         kept::first(deliveries, answer.deliveries as usize),
     );
     broadcast(
-        r.members, visited, without, written, records, deliveries, out, o,
+        rt, r.members, visited, without, written, records, deliveries, out, o,
     )
 }
 
