@@ -33,6 +33,10 @@ FIELDS = {
 ACCOUNTS = {"over-structs": "kept_over_structs", "over-bytes": "kept_over_bytes"}
 ACCOUNT_FILES = ("crates/ring/specs/Promise.antt", "crates/ring/proofs/runs/Promise.antt")
 
+# A field that would have the name of the definition that it speaks of. A lemma of that name keeps its dash.
+OF_THIS_RING = ("this-ring", "of_this_ring")
+LEMMA_FILE = "crates/visit/proofs/TokenLaws.antt"
+
 MARKS = "crates/ring/proofs/seen/VisitMarks.antt"
 
 # A definition that the kit's scripts gave another name than its uses.
@@ -89,6 +93,8 @@ def antt(path, text):
             text = text.replace("visit." + name, "visit." + field)
         else:
             text = whole(name).sub(field, text)
+    if path != LEMMA_FILE and not path.endswith("/Proof.antt"):
+        text = whole(OF_THIS_RING[0]).sub(OF_THIS_RING[1], text)
     for path_there, name, right in GARBLED:
         if path == path_there:
             text = whole(name).sub(right, text)

@@ -71,7 +71,7 @@ module _ (r : Record) (frame : List ℕ) where
     message-arrives m read follows =
         ask (this_ring (current r).ring.0 (ids (current r)) m.header) OtherRing _ (λ this.
         ask (is_member (ids (current r)) m.sender) NotMember _ (λ member.
-        hears m read (record { whole_record = w; follows = follows; this-ring = this; member = member }) refl))
+        hears m read (record { whole_record = w; follows = follows; of_this_ring = this; member = member }) refl))
 
     pub token-arrives : (t : Token) → read_of frame ≡ a_token t → token_follows t ≡ true → ArrivedCase r frame (token_arrived r t)
     unfolding token_arrived
@@ -86,7 +86,7 @@ module _ (r : Record) (frame : List ℕ) where
         (record {
           whole_record = w;
           follows = follows;
-          this-ring = this;
+          of_this_ring = this;
           members = members;
           here = eqb-true t.addressee r.own here;
           newer = ltb-true r.turn.number.0 t.number.0 newer;

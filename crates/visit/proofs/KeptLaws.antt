@@ -29,7 +29,7 @@ unfolding raised
 just-kept r m content h =
     let log = (whole-good r h.whole_record).log in
     record {
-      header = header-here r.log m.header h.this-ring;
+      header = header-here r.log m.header h.of_this_ring;
       entry = entry-same r.log.held (place_of m.number.0) (entry_in m content) (held-sizes r.log.held log.ready.stock.held.range) (omega arith) (message-facts m content h.follows).short;
       follows = h.follows;
     }

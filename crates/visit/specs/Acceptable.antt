@@ -22,14 +22,14 @@ covers_held l highest = leb l.level.0 highest && all_within 1 highest (held_numb
 pub record Hearable (r : Record) (m : Message) (content : List ℕ) : Type 0 where
   pub whole_record : whole r ≡ true
   pub follows : message_follows m content ≡ true
-  pub this-ring : this_ring (current r).ring.0 (ids (current r)) m.header ≡ true
+  pub of_this_ring : this_ring (current r).ring.0 (ids (current r)) m.header ≡ true
   pub member : is_member (ids (current r)) m.sender ≡ true
 
 -- a visit that passes 2 and 12 to 18
 pub record Acceptable (v : Visit) : Type 0 where
   pub whole_record : whole v.rec ≡ true
   pub follows : token_follows v.token ≡ true
-  pub this-ring : this_ring (log v).ring.0 (ids (log v)) v.token.header ≡ true
+  pub of_this_ring : this_ring (log v).ring.0 (ids (log v)) v.token.header ≡ true
   pub members : token_members (ids (log v)) v.token ≡ true
   pub here : v.token.addressee ≡ own v
   pub newer : v.rec.turn.number.0 < v.token.number.0

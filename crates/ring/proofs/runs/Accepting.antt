@@ -45,7 +45,7 @@ use Rattle.ring.proofs.seen.VisitLaw.{accepts as accepts-visit}
 pub record Passed (ring : ℕ) (members frame : List ℕ) : Type 0 where
   pub read : read_of frame ≡ a_token (read_of frame).token
   pub follows : token_follows (read_of frame).token ≡ true
-  pub this-ring : this_ring ring members (read_of frame).token.header ≡ true
+  pub of_this_ring : this_ring ring members (read_of frame).token.header ≡ true
   pub members-are : token_members members (read_of frame).token ≡ true
 
 pub passed : (ring : ℕ) (members frame : List ℕ) → token_passes ring members frame ≡ true → Passed ring members frame
@@ -66,7 +66,7 @@ passed ring members frame e = go (read-case frame)
         record {
           read = f ∙ ap a_token same;
           follows = subst (λ (k : Token). token_follows k ≡ true) same follows;
-          this-ring = part e (λ (g : this_ring ring members (read_of frame).token.header ≡ false). simp (g, and-false));
+          of_this_ring = part e (λ (g : this_ring ring members (read_of frame).token.header ≡ false). simp (g, and-false));
           members-are = part e (λ (g : token_members members (read_of frame).token ≡ false). simp (g, and-false));
         }
 
@@ -87,7 +87,7 @@ module _ (r : Record) (frame : List ℕ) (t : Token) (read : read_of frame ≡ a
         le-leb most_deliveries deliveries room,
         ok.whole_record,
         read,
-        ok.this-ring,
+        ok.of_this_ring,
         ok.members,
         eq-eqb t.addressee r.own ok.here,
         lt-ltb r.turn.number.0 t.number.0 ok.newer,

@@ -139,7 +139,7 @@ module _ (members : List ℕ) (ring : ℕ)
         record {
           whole_record = whole-there;
           follows = token-passed.follows;
-          this-ring = rw (ring-is, ids-are) token-passed.this-ring;
+          of_this_ring = rw (ring-is, ids-are) token-passed.of_this_ring;
           members = rw ids-are token-passed.members-are;
           here = addressed-here;
           newer = newer;

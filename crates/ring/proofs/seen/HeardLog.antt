@@ -93,7 +93,7 @@ module _ (r : Record) (frame : List ℕ) (m : Message) (read : read_of frame ≡
   values = message-facts m (content_of frame) h.follows
 
   pub same-header : ring_header l ≡ m.header
-  same-header = header-here l m.header h.this-ring
+  same-header = header-here l m.header h.of_this_ring
 
   -- the frame that is held is the one that came
   same-frame : frame_with l n e ≡ frame

@@ -34,7 +34,7 @@ hear-heard-requires c = (
   record {
     whole_record = c.requires.0.whole_record;
     follows = c.requires.1;
-    this-ring = this (goal.at.hear-heard-requires c).Else-not-this_ring;
+    of_this_ring = this (goal.at.hear-heard-requires c).Else-not-this_ring;
     member = sender-asked (the-record (goal.at.hear-heard-requires c).Start) _ _ c.args.m.sender c.is_member.ensures (not-false _ c.if-not-is_member.false-raw);
   },
   c.requires.0.size,

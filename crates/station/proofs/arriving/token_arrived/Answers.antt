@@ -64,7 +64,7 @@ accept-visited-requires c = (
   record {
     whole_record = c.requires.0.whole_record;
     follows = c.requires.1;
-    this-ring = this (goal.at.accept-visited-requires c).Else-not-this_ring;
+    of_this_ring = this (goal.at.accept-visited-requires c).Else-not-this_ring;
     members = members (goal.at.accept-visited-requires c).Else-not-token_members;
     here = c.if-t-h.false;
     newer = c.if-t-h-2.false;
