@@ -108,7 +108,7 @@ def page(text):
     def turn(match):
         return turned(match.group()) if match.group() in NAMES_IN_PAGES else match.group()
 
-    return RUN.sub(turn, text.replace("′", "'"))
+    return RUN.sub(turn, text.replace("′", "'").replace("getD", "get_or"))
 
 
 def rewrite(path, turn):
