@@ -21,7 +21,7 @@ LEMMAS = {
 }
 EVERYWHERE = {"all_pass": "all-pass", "to_end": "to-end", "by_kind": "by-kind"}
 
-# Fields of specs/ that had a dash. The last two are told from the accounts `over_structs` and `over_bytes`.
+# Fields of specs/ that had a dash.
 FIELDS = {
     "one-order": "one_order",
     "safe-first": "safe_first",
@@ -30,6 +30,7 @@ FIELDS = {
     "whole-record": "whole_record",
     "own-or-nobody": "own_or_nobody",
 }
+# Two more, which would have the names of the accounts `over_structs` and `over_bytes`.
 ACCOUNTS = {"over-structs": "kept_over_structs", "over-bytes": "kept_over_bytes"}
 ACCOUNT_FILES = ("crates/ring/specs/Promise.antt", "crates/ring/proofs/runs/Promise.antt")
 
