@@ -9,6 +9,7 @@ ghost use Rattle.station.specs.Over.{found_over, post_over, arrive_over, resend_
 
 use station::Outcome;
 
+// Founding. Ruled out: a record written with a refusal; an odd list read as a shorter one.
 #[unsafe(no_mangle)]
 pub extern "C" fn totem_found(
     bytes: &mut [u8],
@@ -23,6 +24,7 @@ pub extern "C" fn totem_found(
     totem::totem_found(bytes, members, own, ring, token)
 }
 
+// Posting. Ruled out: 9 with an empty queue; a record of another length taken.
 #[unsafe(no_mangle)]
 pub extern "C" fn totem_post(bytes: &mut [u8], service: u16, content: &[u8]) -> Outcome
     ensures { Does outcome_of (post_over bytes.old service content.now) result
@@ -31,6 +33,7 @@ pub extern "C" fn totem_post(bytes: &mut [u8], service: u16, content: &[u8]) -> 
     totem::totem_post(bytes, service, content)
 }
 
+// Arrival. Ruled out: the two buffers changed over; a record written with a refusal.
 #[unsafe(no_mangle)]
 pub extern "C" fn totem_arrive(
     bytes: &mut [u8],
@@ -46,6 +49,7 @@ pub extern "C" fn totem_arrive(
     totem::totem_arrive(bytes, frame, frames, deliveries)
 }
 
+// Resending. Ruled out: another token written; 2 where the buffer is too small already.
 #[unsafe(no_mangle)]
 pub extern "C" fn totem_resend(bytes: &[u8], frames: &mut [u8]) -> Outcome
     ensures { Does outcome_of (resend_over bytes.now (length frames.old)) result
