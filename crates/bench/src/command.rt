@@ -1,69 +1,49 @@
 // What a whole line asks for.
-use crate::line::{Fault, Fields, Line, Part};
-use crate::{line, number};
+use crate::fault::Fault;
 
+// A line's first letter.
+#[derive(Clone, Copy, Debug, PartialEq, Eq)]
+pub enum Verb {
+    Found,
+    Post,
+    Turn,
+    Arrive,
+    Write,
+}
+
+impl TryFrom<u8> for Verb {
+    type Error = Fault;
+
+    fn try_from(letter: u8) -> Result<Verb, Fault> {
+        match letter {
+            b'r' => Ok(Verb::Found),
+            b'p' => Ok(Verb::Post),
+            b't' => Ok(Verb::Turn),
+            b'f' => Ok(Verb::Arrive),
+            b'w' => Ok(Verb::Write),
+            _ => Err(Fault::Letter),
+        }
+    }
+}
+
+// Ids are two bytes each.
 #[derive(Clone, Copy)]
-pub enum Command {
+pub enum Command<'a> {
     Nothing,
-    Found(u32),
-    Post { place: u32, service: u16 },
+    Found {
+        number: u32,
+        ids: &'a [u8],
+    },
+    Post {
+        place: u32,
+        service: u16,
+        content: &'a [u8],
+    },
     Turn,
     TurnWithout(u32),
-    Arrive(u32),
+    Arrive {
+        place: u32,
+        frame: &'a [u8],
+    },
     Write(u16),
-    Wrong(Fault),
-}
-
-// The numbers are read: are there enough of them?
-fn command_of(fields: Fields) -> Command {
-    let letter = fields.letter;
-    let place = fields.first;
-    if letter == b'r' {
-        return Command::Found(fields.first);
-    }
-    if letter == b't' {
-        return Command::TurnWithout(place);
-    }
-    if letter == b'f' {
-        return Command::Arrive(place);
-    }
-    if letter == b'w' {
-        return Command::Write(number::within_u16(fields.first));
-    }
-    if fields.numbers < 2 {
-        return Command::Wrong(Fault::NoNumber);
-    }
-    Command::Post {
-        place,
-        service: number::within_u16(fields.second),
-    }
-}
-
-// A letter alone.
-fn bare(fields: Fields) -> Command {
-    if fields.letter == b't' {
-        return Command::Turn;
-    }
-    Command::Wrong(Fault::NoNumber)
-}
-
-fn whole_frame(fields: Fields) -> Command {
-    if fields.high < number::NO_DIGIT {
-        return Command::Wrong(Fault::NotHexadecimal);
-    }
-    command_of(fields)
-}
-
-// A line has ended. Its kept bytes are those of its fields.
-pub fn end_line(line: Line) -> Command {
-    let part = line.part;
-    let fields = line.fields;
-    match part {
-        Part::Letter => Command::Nothing,
-        Part::Gap => bare(fields),
-        Part::Number => command_of(fields),
-        Part::Content => command_of(fields),
-        Part::Frame => whole_frame(fields),
-        Part::Wrong(fault) => Command::Wrong(fault),
-    }
 }

@@ -1,241 +1,196 @@
 // A line of the script, byte by byte. Numbers, contents and frames have any length; nothing keeps a
 // whole line.
-use crate::{kept, number};
+use crate::command::{Command, Verb};
+use crate::fault::Fault;
+use crate::number;
+use arrayvec::ArrayVec;
 
-// What is wrong with a line that isn't understood.
-#[derive(Clone, Copy)]
-pub enum Fault {
-    Letter,
-    NoNumber,
-    LargeId,
-    NotHexadecimal,
-    MoreFields,
-    NoPlace,
-    NoRing,
-}
+// One id more than a ring has members are kept: enough to see that a list is too long.
+const MOST_IDS: usize = record::MOST_MEMBERS + 1;
+
+pub const IDS_ROOM: usize = 2 * MOST_IDS;
+
+// Room for one byte more than the longest frame, so that what is cut off there is too long for any
+// use.
+const KEPT_ROOM: usize = 65538;
 
 // What the next byte belongs to.
-#[derive(Clone, Copy)]
-pub enum Part {
+#[derive(Clone, Copy, Debug, PartialEq, Eq)]
+enum Part {
     Letter,
-    Gap,
-    Number,
+    Gap(Verb),
+    Number(Verb),
     Content,
     Frame,
-    Wrong(Fault),
 }
 
-#[derive(Clone, Copy)]
-pub struct Fields {
-    pub letter: u8,
-    // The number that is being read, and whether it has a digit yet.
-    pub value: u32,
-    pub has_digit: bool,
-    // How many numbers are read, and the first two: ring number, place or count, then the service.
-    pub numbers: u8,
-    pub first: u32,
-    pub second: u32,
-    // The first digit of a pair, or number::NO_DIGIT.
-    pub high: u8,
-    // How many bytes are kept.
-    pub used: usize,
-}
-
-#[derive(Clone, Copy)]
+#[derive(Drop)]
 pub struct Line {
-    pub part: Part,
-    pub fields: Fields,
+    part: Result<Part, Fault>,
+    // The number that is being read, from its first digit on.
+    value: Option<u32>,
+    // The first two numbers: ring number, place or count, then the service.
+    first: Option<u32>,
+    second: Option<u32>,
+    // The numbers of `r` after the first.
+    ids: ArrayVec<u8, IDS_ROOM>,
+    // The first digit of a pair.
+    high: Option<u8>,
+    // A content, or a frame.
+    kept: ArrayVec<u8, KEPT_ROOM>,
 }
 
-pub fn new_line() -> Line {
-    Line {
-        part: Part::Letter,
-        fields: Fields {
-            letter: 0,
-            value: 0,
-            has_digit: false,
-            numbers: 0,
-            first: 0,
-            second: 0,
-            high: number::NO_DIGIT,
-            used: 0,
-        },
+impl Line {
+    pub fn new() -> Line {
+        Line {
+            part: Ok(Part::Letter),
+            value: None,
+            first: None,
+            second: None,
+            ids: ArrayVec::new(),
+            high: None,
+            kept: ArrayVec::new(),
+        }
     }
-}
 
-fn wrong(fields: Fields, fault: Fault) -> Line {
-    Line {
-        part: Part::Wrong(fault),
-        fields,
+    // A new line begins.
+    pub fn clear(&mut self) {
+        self.part = Ok(Part::Letter);
+        self.value = None;
+        self.first = None;
+        self.second = None;
+        self.ids.clear();
+        self.high = None;
+        self.kept.clear();
     }
-}
 
-fn is_letter(b: u8) -> bool {
-    (b == b'r') | (b == b'p') | (b == b't') | (b == b'f') | (b == b'w')
-}
+    // One byte more.
+    pub fn take(&mut self, b: u8) {
+        if let Ok(part) = self.part {
+            self.part = self.after(part, b);
+        }
+    }
 
-fn take_letter(fields: Fields, b: u8) -> Line {
-    if !is_letter(b) {
-        return wrong(fields, Fault::Letter);
+    // The line ends, perhaps within a number.
+    pub fn end(&mut self) {
+        if let Ok(Part::Number(verb)) = self.part {
+            if let Err(fault) = self.end_number(verb) {
+                self.part = Err(fault);
+            }
+        }
     }
-    let mut fields = fields;
-    fields.letter = b;
-    Line {
-        part: Part::Gap,
-        fields,
-    }
-}
 
-fn take_gap(fields: Fields, b: u8) -> Line {
-    if b != b' ' {
-        return wrong(fields, Fault::Letter);
+    // What comes after this byte.
+    fn after(&mut self, part: Part, b: u8) -> Result<Part, Fault> {
+        match part {
+            Part::Letter => Ok(Part::Gap(Verb::try_from(b)?)),
+            Part::Gap(verb) if b == b' ' => Ok(Part::Number(verb)),
+            Part::Gap(_) => Err(Fault::Letter),
+            Part::Number(verb) => self.take_digit(verb, b),
+            Part::Content => Ok(self.take_content(b)),
+            Part::Frame => self.take_hexadecimal(b),
+        }
     }
-    Line {
-        part: Part::Number,
-        fields,
-    }
-}
 
-// A number is read whole: where it goes. The numbers of `r` after the first are ids.
-fn end_number(fields: Fields, kept: &mut [u8]) -> Line {
-    let mut fields = fields;
-    let value = fields.value;
-    if !fields.has_digit {
-        return wrong(fields, Fault::NoNumber);
+    fn take_digit(&mut self, verb: Verb, b: u8) -> Result<Part, Fault> {
+        if b == b' ' {
+            self.end_number(verb)?;
+            return self.after_number(verb);
+        }
+        if !b.is_ascii_digit() {
+            return Err(Fault::NoNumber);
+        }
+        let value = self.value.unwrap_or(0);
+        self.value = Some(number::more_decimal(value, b - b'0'));
+        Ok(Part::Number(verb))
     }
-    fields.has_digit = false;
-    fields.value = 0;
-    if fields.numbers == 0 {
-        fields.numbers = 1;
-        fields.first = value;
-        return Line {
-            part: Part::Number,
-            fields,
-        };
-    }
-    if fields.letter == b'r' {
-        return end_id(fields, kept, value);
-    }
-    fields.numbers = 2;
-    fields.second = value;
-    Line {
-        part: Part::Number,
-        fields,
-    }
-}
 
-fn end_id(fields: Fields, kept: &mut [u8], value: u32) -> Line {
-    if (frames::MOST_ID as u32) < value {
-        return wrong(fields, Fault::LargeId);
+    // A number is read whole: where it goes.
+    fn end_number(&mut self, verb: Verb) -> Result<(), Fault> {
+        let value = self.value.take().ok_or(Fault::NoNumber)?;
+        if self.first.is_none() {
+            self.first = Some(value);
+        } else if verb == Verb::Found {
+            return self.keep_id(value);
+        } else {
+            self.second = Some(value);
+        }
+        Ok(())
     }
-    let mut fields = fields;
-    fields.used = kept::keep_id(kept, fields.used, number::within_u16(value));
-    Line {
-        part: Part::Number,
-        fields,
-    }
-}
 
-// What follows a number and a space.
-fn after_number(line: Line) -> Line {
-    let part = line.part;
-    let fields = line.fields;
-    if let Part::Wrong(_) = part {
-        return line;
+    fn keep_id(&mut self, value: u32) -> Result<(), Fault> {
+        match u16::try_from(value) {
+            Ok(id) => {
+                let _ = self.ids.try_extend_from_slice(&id.to_le_bytes());
+                Ok(())
+            }
+            Err(_) => Err(Fault::LargeId),
+        }
     }
-    let letter = fields.letter;
-    if letter == b'r' {
-        return line;
-    }
-    if letter == b'f' {
-        return Line {
-            part: Part::Frame,
-            fields,
-        };
-    }
-    if letter != b'p' {
-        return wrong(fields, Fault::MoreFields);
-    }
-    if fields.numbers == 1 {
-        return line;
-    }
-    Line {
-        part: Part::Content,
-        fields,
-    }
-}
 
-fn take_digit(fields: Fields, kept: &mut [u8], b: u8) -> Line {
-    if b == b' ' {
-        return after_number(end_number(fields, kept));
+    // What follows a number and a space.
+    fn after_number(&self, verb: Verb) -> Result<Part, Fault> {
+        match verb {
+            Verb::Found => Ok(Part::Number(verb)),
+            Verb::Post if self.second.is_none() => Ok(Part::Number(verb)),
+            Verb::Post => Ok(Part::Content),
+            Verb::Arrive => Ok(Part::Frame),
+            Verb::Turn => Err(Fault::MoreFields),
+            Verb::Write => Err(Fault::MoreFields),
+        }
     }
-    if b < b'0' {
-        return wrong(fields, Fault::NoNumber);
-    }
-    if b'9' < b {
-        return wrong(fields, Fault::NoNumber);
-    }
-    let mut fields = fields;
-    fields.value = number::more_decimal(fields.value, b - b'0');
-    fields.has_digit = true;
-    Line {
-        part: Part::Number,
-        fields,
-    }
-}
 
-fn take_content(fields: Fields, kept: &mut [u8], b: u8) -> Line {
-    let mut fields = fields;
-    fields.used = kept::keep(kept, fields.used, b);
-    Line {
-        part: Part::Content,
-        fields,
+    fn take_content(&mut self, b: u8) -> Part {
+        let _ = self.kept.try_push(b);
+        Part::Content
     }
-}
 
-fn take_hexadecimal(fields: Fields, kept: &mut [u8], b: u8) -> Line {
-    let mut fields = fields;
-    let low = number::hex_value(b);
-    let high = fields.high;
-    if number::NO_DIGIT <= low {
-        return wrong(fields, Fault::NotHexadecimal);
+    fn take_hexadecimal(&mut self, b: u8) -> Result<Part, Fault> {
+        let low = number::hex_value(b).ok_or(Fault::NotHexadecimal)?;
+        match self.high.take() {
+            None => self.high = Some(low),
+            Some(high) => {
+                let _ = self.kept.try_push(high << 4 | low);
+            }
+        }
+        Ok(Part::Frame)
     }
-    if number::NO_DIGIT <= high {
-        fields.high = low;
-        return Line {
-            part: Part::Frame,
-            fields,
-        };
-    }
-    fields.high = number::NO_DIGIT;
-    fields.used = kept::keep(kept, fields.used, 16 * high + low);
-    Line {
-        part: Part::Frame,
-        fields,
-    }
-}
 
-// One byte more of a line.
-pub fn take(line: Line, kept: &mut [u8], b: u8) -> Line {
-    let part = line.part;
-    let fields = line.fields;
-    match part {
-        Part::Letter => take_letter(fields, b),
-        Part::Gap => take_gap(fields, b),
-        Part::Number => take_digit(fields, kept, b),
-        Part::Content => take_content(fields, kept, b),
-        Part::Frame => take_hexadecimal(fields, kept, b),
-        Part::Wrong(_) => line,
+    // What the line asks for, once it has ended.
+    pub fn command(&self) -> Result<Command<'_>, Fault> {
+        match self.part? {
+            Part::Letter => Ok(Command::Nothing),
+            Part::Gap(Verb::Turn) => Ok(Command::Turn),
+            Part::Gap(_) => Err(Fault::NoNumber),
+            Part::Number(verb) => self.numbered(verb),
+            Part::Content => self.numbered(Verb::Post),
+            Part::Frame if self.high.is_some() => Err(Fault::NotHexadecimal),
+            Part::Frame => self.numbered(Verb::Arrive),
+        }
     }
-}
 
-// A line that ends within a number.
-pub fn ended(line: Line, kept: &mut [u8]) -> Line {
-    let part = line.part;
-    let fields = line.fields;
-    if let Part::Number = part {
-        end_number(fields, kept)
-    } else {
-        line
+    // The numbers are read: are there enough of them?
+    fn numbered(&self, verb: Verb) -> Result<Command<'_>, Fault> {
+        let first = self.first.ok_or(Fault::NoNumber)?;
+        match verb {
+            Verb::Found => Ok(Command::Found {
+                number: first,
+                ids: self.ids.as_slice(),
+            }),
+            Verb::Post => {
+                let second = self.second.ok_or(Fault::NoNumber)?;
+                Ok(Command::Post {
+                    place: first,
+                    service: number::within_u16(second),
+                    content: self.kept.as_slice(),
+                })
+            }
+            Verb::Turn => Ok(Command::TurnWithout(first)),
+            Verb::Arrive => Ok(Command::Arrive {
+                place: first,
+                frame: self.kept.as_slice(),
+            }),
+            Verb::Write => Ok(Command::Write(number::within_u16(first))),
+        }
     }
 }

@@ -1,28 +1,15 @@
 // The line `w`: how long a token with so many requests is.
-use crate::output::Output;
-use crate::{number, print};
-use frames::{Blocker, Header, MessageNumber, RingNumber, Token, TokenNumber, Written};
+use crate::number;
+use crate::output::Printer;
+use frames::{Header, MessageNumber, RingNumber, Token, TokenNumber};
 
 // The numbers from 1 on, as many as are asked for and have room.
 fn requests(count: u16) -> [MessageNumber; frames::MOST_REQUESTS] {
     let mut numbers = [MessageNumber(0); frames::MOST_REQUESTS];
-    let mut i = 0;
-    while i < frames::MOST_REQUESTS {
-        if count as usize <= i {
-            return numbers;
-        }
+    for i in 0..frames::MOST_REQUESTS.min(count as usize) {
         numbers[i] = MessageNumber(i as u32 + 1);
-        i += 1;
     }
     numbers
-}
-
-fn blocker(count: u16) -> Blocker {
-    if count == 0 {
-        Blocker::Nobody
-    } else {
-        Blocker::Member(1)
-    }
 }
 
 // A token that asks for messages 1 to `count`.
@@ -36,7 +23,7 @@ fn asking(count: u16) -> Token {
         number: TokenNumber(1),
         highest: MessageNumber(count as u32),
         aru: MessageNumber(0),
-        blocker: blocker(count),
+        blocker: (count != 0).then_some(1),
         round: 0,
         backlog: 0,
         count,
@@ -44,11 +31,10 @@ fn asking(count: u16) -> Token {
     }
 }
 
-pub fn write(rt: &(impl Print + Eprint), out: &mut [u8], o: Output, count: u16) -> Output {
+pub fn write<R: Print + Eprint>(count: u16, out: &mut Printer<R>) {
     let mut frame = [0u8; frames::LONGEST_TOKEN];
-    let written = frames::write_token(asking(count), &mut frame);
-    match written {
-        Written::Size(n) => print::number(rt, out, o, number::within_u32(n)),
-        Written::Refused(why) => print::refusal(rt, out, o, frames::refusal_number(why)),
+    match frames::write_token(asking(count), &mut frame) {
+        Ok(n) => out.number(number::within_u32(n)),
+        Err(why) => out.refusal(u16::from(why)),
     }
 }

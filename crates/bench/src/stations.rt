@@ -1,151 +1,125 @@
-// The ring that the script has founded. Its records stand by place in bytes that main owns.
-use crate::output::Output;
-use crate::{kept, number, print};
-use station::Outcome;
+// The stations of the ring that the script has founded, by place.
+use crate::line::IDS_ROOM;
+use crate::number;
+use crate::output::Printer;
+use arrayvec::ArrayVec;
+use frames::RingNumber;
 
-// How many members the ring has, 0 before there is one, and their list, two bytes an id; how long the
-// newest token is, and its bytes.
-#[derive(Clone, Copy)]
-pub struct Ring {
-    pub members: usize,
-    pub list: [u8; kept::IDS_ROOM],
-    pub token_size: usize,
-    pub token: [u8; frames::LONGEST_TOKEN],
+const RECORDS_ROOM: usize = IDS_ROOM / 2 * record::RECORD_SIZE;
+
+// What a place can hand out for all broadcasts of one visit.
+const DELIVERIES_ROOM: usize = record::MOST_BROADCASTS * visit::MOST_DELIVERIES;
+
+const TOKEN_ROOM: usize = frames::LONGEST_TOKEN;
+
+pub type Token = ArrayVec<u8, TOKEN_ROOM>;
+
+// Their records, and the list of members, two bytes an id; before there is a ring nobody is in it.
+#[derive(Drop)]
+pub struct Stations {
+    records: [u8; RECORDS_ROOM],
+    list: ArrayVec<u8, IDS_ROOM>,
 }
 
-pub fn no_ring() -> Ring {
-    Ring {
-        members: 0,
-        list: [0u8; kept::IDS_ROOM],
-        token_size: 0,
-        token: [0u8; frames::LONGEST_TOKEN],
-    }
+// The first `n` bytes, or all where there are fewer.
+fn first(bytes: &[u8], n: u16) -> &[u8] {
+    bytes.get(..n as usize).unwrap_or(bytes)
 }
 
-// Copies bytes to the front of a buffer, and answers how many; none where there is no room.
-fn copy(to: &mut [u8], bytes: &[u8]) -> usize {
-    if to.len() < bytes.len() {
-        return 0;
+impl Stations {
+    pub fn new() -> Stations {
+        Stations {
+            records: [0; RECORDS_ROOM],
+            list: ArrayVec::new(),
+        }
     }
-    words::put_bytes(to, 0, bytes);
-    bytes.len()
-}
 
-// A ring that was founded on this list, and its first token.
-pub fn founded(ids: &[u8], answer: Outcome, token: [u8; frames::LONGEST_TOKEN]) -> Ring {
-    let mut list = [0u8; kept::IDS_ROOM];
-    let size = copy(&mut list, ids);
-    Ring {
-        members: size / 2,
-        list,
-        token_size: answer.frames as usize,
-        token,
+    pub fn members(&self) -> usize {
+        self.list.len() / 2
     }
-}
 
-// The place that the newest token is addressed to.
-pub fn addressee(r: Ring) -> usize {
-    let members = r.members;
-    let size = r.token_size;
-    let list = r.list;
-    let token = r.token;
-    if kept::IDS_ROOM / 2 < members {
-        return members;
+    // Founds a ring on a list of ids, and answers its first token, or the number of a question that
+    // refuses it.
+    pub fn found(&mut self, ids: &[u8], number: u32) -> Result<Option<Token>, u16> {
+        let mut token = [0u8; TOKEN_ROOM];
+        let answer = ring::found_ring(&mut self.records, ids, RingNumber(number), &mut token);
+        if answer.refusal != 0 {
+            return Err(answer.refusal);
+        }
+        self.list.clear();
+        let _ = self.list.try_extend_from_slice(ids);
+        Ok(Token::try_from(first(&token, answer.frames)).ok())
     }
-    ring::addressee_place(kept::first(&list, 2 * members), kept::first(&token, size))
-}
 
-// A visit's broadcasts reach one place, unless it is the visited one or the one that nothing reaches.
-fn reach(
-    rt: &(impl Print + Eprint),
-    place: usize,
-    visited: usize,
-    without: usize,
-    written: &[u8],
-    records: &mut [u8],
-    deliveries: &mut [u8],
-    out: &mut [u8],
-    o: Output,
-) -> Output {
-    if place == visited {
-        return o;
+    // A post's refusal, or 0: answers come in numbers, as hosts in C get them.
+    pub fn post(&mut self, place: usize, service: u16, content: &[u8]) -> u16 {
+        ring::post_at(&mut self.records, place, service, content).refusal
     }
-    if place == without {
-        return o;
-    }
-    let n = ring::hear_all(records, place, written, deliveries);
-    print::deliveries(
-        rt,
-        out,
-        o,
-        number::within_u32(place),
-        kept::first(deliveries, n),
-    )
-}
 
-// A visit's broadcasts reach all other places, in their order.
-fn broadcast(
-    rt: &(impl Print + Eprint),
-    members: usize,
-    visited: usize,
-    without: usize,
-    written: &[u8],
-    records: &mut [u8],
-    deliveries: &mut [u8],
-    out: &mut [u8],
-    o: Output,
-) -> Output {
-    let mut o = o;
-    let mut place = 0;
-    while place < members {
-        o = reach(
-            rt, place, visited, without, written, records, deliveries, out, o,
+    // The place that a token is addressed to, if it is somebody's.
+    pub fn addressee(&self, token: &[u8]) -> Option<usize> {
+        ring::addressee_place(self.list.as_slice(), token)
+    }
+
+    // A frame arrives at a place. Its refusal or deliveries are printed, and its broadcasts reach the
+    // others but for `without`. Answers the token that it writes.
+    pub fn arrive<R: Print + Eprint>(
+        &mut self,
+        place: usize,
+        without: Option<usize>,
+        frame: &[u8],
+        out: &mut Printer<R>,
+    ) -> Option<Token> {
+        let mut frames = [0u8; visit::MOST_FRAMES];
+        let mut deliveries = [0u8; DELIVERIES_ROOM];
+        let answer = ring::arrive_at(
+            &mut self.records,
+            place,
+            frame,
+            &mut frames,
+            &mut deliveries,
         );
-        place += 1;
+        let written = first(&frames, answer.frames);
+        out.refusal(answer.refusal);
+        out.deliveries(
+            number::within_u32(place),
+            first(&deliveries, answer.deliveries),
+        );
+        self.broadcast(place, without, written, &mut deliveries, out);
+        if written.is_empty() {
+            return None;
+        }
+        Token::try_from(ring::newest_token(written)).ok()
     }
-    o
-}
 
-// An arrival's refusal or deliveries are printed, and its broadcasts reach the others.
-pub fn hand_on(
-    rt: &(impl Print + Eprint),
-    r: Ring,
-    answer: Outcome,
-    visited: usize,
-    without: usize,
-    records: &mut [u8],
-    frames: &[u8],
-    deliveries: &mut [u8],
-    out: &mut [u8],
-    o: Output,
-) -> Output {
-    let written = kept::first(frames, answer.frames as usize);
-    let o = print::refusal(rt, out, o, answer.refusal);
-    let o = print::deliveries(
-        rt,
-        out,
-        o,
-        number::within_u32(visited),
-        kept::first(deliveries, answer.deliveries as usize),
-    );
-    broadcast(
-        rt, r.members, visited, without, written, records, deliveries, out, o,
-    )
-}
-
-// A token written becomes the newest.
-pub fn renewed(r: Ring, answer: Outcome, frames: &[u8]) -> Ring {
-    if answer.frames == 0 {
-        return r;
+    // A visit's broadcasts reach all other places, in their order. What it takes goes together here alone.
+    fn broadcast<R: Print + Eprint>(
+        &mut self,
+        visited: usize,
+        without: Option<usize>,
+        written: &[u8],
+        deliveries: &mut [u8],
+        out: &mut Printer<R>,
+    ) {
+        for place in 0..self.members() {
+            if place != visited && Some(place) != without {
+                self.reach(place, written, deliveries, out);
+            }
+        }
     }
-    let written = kept::first(frames, answer.frames as usize);
-    let list = r.list;
-    let mut token = [0u8; frames::LONGEST_TOKEN];
-    let size = copy(&mut token, ring::newest_token(written));
-    Ring {
-        members: r.members,
-        list,
-        token_size: size,
-        token,
+
+    // A visit's broadcasts reach one place.
+    fn reach<R: Print + Eprint>(
+        &mut self,
+        place: usize,
+        written: &[u8],
+        deliveries: &mut [u8],
+        out: &mut Printer<R>,
+    ) {
+        let n = ring::hear_all(&mut self.records, place, written, deliveries);
+        out.deliveries(
+            number::within_u32(place),
+            deliveries.get(..n).unwrap_or(deliveries),
+        );
     }
 }

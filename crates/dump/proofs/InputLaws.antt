@@ -1,54 +1,57 @@
 -- Laws of a buffer of input.
-use Prim.Native.Nat.{ℕ, suc, ◌+◌, ◌-◌, ◌<◌, ◌≤◌}
-use mathlib.Core.Path.{◌≡◌, refl, sym, ap, ◌∙◌}
+use Prim.Native.Nat.{ℕ, ◌+◌, ◌-◌, ◌<◌, ◌≤◌}
+use mathlib.Core.Path.{◌≡◌, refl}
+use mathlib.Core.Bool.{Bool, true, false, cond}
 use mathlib.Core.List.{List}
-use native.Mathlib.Nat.{add_comm}
-use native.Mathlib.Numerals.{add-one}
+use borrow.Author.Tests.{leb-true, leb-false}
+use lib.Dec.{leb}
+use Rattle.std.specs.Prelude.{Option, Some, None, IfSome, IsNone}
+use Rattle.frames.specs.Layout.{length_size, most_framed}
+use Rattle.frames.specs.Header.{own_size, framed_size}
+use Rattle.frames.proofs.Sizes.{framed-none}
+use Rattle.dump.specs.Input.{come_whole, whole_size}
 use native.Mathlib.Omega.{arith}
-use lib.ListN.{length, get_or, set, take, drop, length-set, length-take, length-drop}
-use lib.Seq.{take-suc, take-suc-set, drop-set-lt, drop-drop, get_or-drop}
+use lib.ListN.{length, take, drop, length-take, length-drop}
+
+different : true ≡ false → ⊥
+different e = let z : ◌≡◌ {A = ℕ} 0 1 = cc in omega arith
+
+none-some : {n : ℕ} → None ≡ Some n → ⊥
+none-some e = let z : ◌≡◌ {A = ℕ} 0 1 = cc in omega arith
+
+-- ---- the frame that a stream begins with
+
+come-within : (s : List ℕ) (n : ℕ) (b : Bool) → leb n (length s) ≡ b → 0 < n → IfSome (cond b (Some n) None) (λ k. (0 < k) × (k ≤ length s))
+come-within s n true e some = (some, leb-true n (length s) e)
+come-within s n false e some = tt
+
+come-short : (s : List ℕ) (n : ℕ) (b : Bool) → leb n (length s) ≡ b → n ≤ most_framed → IsNone (cond b (Some n) None) → length s < most_framed
+come-short s n true e most none = absurd (different none)
+come-short s n false e most none = let less = leb-false n (length s) e in omega arith
+
+module _ (s : List ℕ) where
+  framed-more : (n : ℕ) → framed_size s ≡ Some n → 0 < n
+  unfolding framed_size
+  framed-more n e = go (leb length_size (length s)) e
+    where
+      go : (b : Bool) → cond b (Some (own_size s)) None ≡ Some n → 0 < n
+      go true f = let same : own_size s ≡ n = cc in omega arith
+      go false f = absurd (none-some f)
+
+  within : (o : Option ℕ) → framed_size s ≡ o → IfSome (come_whole s o) (λ n. (0 < n) × (n ≤ length s))
+  within None e = tt
+  within (Some n) e = come-within s n (leb n (length s)) refl (framed-more n e)
+
+  pub whole-within : IfSome (whole_size s) (λ n. (0 < n) × (n ≤ length s))
+  whole-within = within (framed_size s) refl
+
+  short : (o : Option ℕ) → framed_size s ≡ o → IfSome o (λ n. n ≤ most_framed) → IsNone (come_whole s o) → length s < most_framed
+  short None e most none = omega (arith, framed-none s e)
+  short (Some n) e most none = come-short s n (leb n (length s)) refl most none
+
+  pub whole-short : IfSome (framed_size s) (λ n. n ≤ most_framed) → IsNone (whole_size s) → length s < most_framed
+  whole-short = short (framed_size s) refl
 
 -- what is left from `from` on, as the code spells it, is short
 pub rest-short : (from most : ℕ) (s : List ℕ) → length (take (length s - from) (drop from s)) < most → length s < from + most
 rest-short from most s h = let short = simp (length-take, length-drop) at h in omega arith
-
--- ---- a loop that moves the bytes from `from` on to the front, the first first: those passed are moved, and the others are as they were
-
-pub record Shifting (from n : ℕ) (s₀ : List ℕ) (i : ℕ) (s : List ℕ) : Type 0 where
-  pub within : i ≤ n
-  pub inside : from + n ≤ length s₀
-  pub size : length s ≡ length s₀
-  pub moved : take i s ≡ take i (drop from s₀)
-  pub left : drop i s ≡ drop i s₀
-
-pub shifting-starts : (from n : ℕ) (s : List ℕ) → from + n ≤ length s → Shifting from n s 0 s
-shifting-starts from n s h = record { within = omega arith; inside = h; size = refl; moved = refl; left = refl }
-
--- what stands at from + i is what stood there
-unmoved : (from i : ℕ) (s s₀ : List ℕ) → drop i s ≡ drop i s₀ → get_or s (from + i) 0 ≡ get_or (drop from s₀) i 0
-unmoved from i s s₀ e =
-    let there : get_or (drop i s) from 0 ≡ get_or (drop i s₀) from 0 = ap (λ (l : List ℕ). get_or l from 0) e in
-    ap (λ (k : ℕ). get_or s k 0) (add_comm from i)
-    ∙ sym (get_or-drop i s from 0)
-    ∙ there
-    ∙ get_or-drop i s₀ from 0
-    ∙ ap (λ (k : ℕ). get_or s₀ k 0) (add_comm i from)
-    ∙ sym (get_or-drop from s₀ i 0)
-
-pub shifting-goes : (from n : ℕ) (s₀ : List ℕ) (i : ℕ) (s : List ℕ) → Shifting from n s₀ i s → i < n → Shifting from n s₀ (i + 1) (set s i (get_or s (from + i) 0))
-shifting-goes from n s₀ i s h more =
-    let here : i < length s = omega (arith, h.size) in
-    let there : i < length (drop from s₀) = simp length-drop (omega arith) in
-    let rest : drop (suc i) s ≡ drop (suc i) s₀ = rw (← add-one i, ← drop-drop 1 i s, ← drop-drop 1 i s₀, h.left) in
-    record {
-      within = omega arith;
-      inside = h.inside;
-      size = length-set s i (get_or s (from + i) 0) ∙ h.size;
-      moved = rw (add-one i, take-suc-set s i (get_or s (from + i) 0) here, take-suc (drop from s₀) i 0 there, h.moved, unmoved from i s s₀ h.left);
-      left = rw (add-one i, drop-set-lt (suc i) s i (get_or s (from + i) 0) (omega arith)) rest;
-    }
-
-pub shifting-ends : (from n : ℕ) (s₀ : List ℕ) (i : ℕ) (s : List ℕ) → Shifting from n s₀ i s → n ≤ i → take n s ≡ take n (drop from s₀)
-shifting-ends from n s₀ i s h done =
-    let e : i ≡ n = omega arith in
-    rw e at h.moved

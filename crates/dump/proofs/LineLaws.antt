@@ -1,68 +1,55 @@
 -- Laws of a line, one for each way to put it.
-use Prim.Native.Nat.{ℕ, ◌+◌, ◌-◌, ◌≤◌}
-use mathlib.Core.Path.{◌≡◌, refl}
-use mathlib.Core.List.{List, [], ◌∷◌}
+use Prim.Native.Nat.{ℕ, ◌+◌, ◌≤◌}
+use mathlib.Core.Path.{◌≡◌, sym}
+use mathlib.Core.List.{List}
+use native.Mathlib.Nat.{sub-zero}
 use native.Mathlib.Omega.{arith}
-use lib.ListN.{length, get_or, take, drop}
+use lib.ListN.{length, take}
 use lib.Seq.{take_all}
+use Rattle.std.proofs.Common.{Bor, Option, None, Some}
+use Rattle.std.specs.Option.{unwrap_or}
+use Rattle.std.specs.Slice.{IsGetRangeResult}
 use Rattle.frames.specs.Message.{content_of}
-use Rattle.frames.specs.Read.{read_of}
+use Rattle.frames.specs.Read.{read_of, unread_as, a_message, a_token}
 use Rattle.frames.specs.Refusal.{frame_refusal_number}
 use Rattle.frames.specs.declared.message.Message.{Message}
+use Rattle.frames.specs.declared.token.Token.{Token}
 use Rattle.frames.specs.declared.refusal.Refusal.{Refusal}
-use Rattle.frames.specs.declared.token.Blocker.{Blocker}
-use Rattle.frames.specs.declared.token.Blocker.TheVariants.{Nobody, Member}
-use Rattle.frames.specs.declared.reader.Reading.{Reading}
-use Rattle.frames.specs.declared.reader.Answer.TheVariants.{Refused, IsMessage, IsToken}
-use Rattle.text.specs.Text.{Filled, filled, put, Whole, ascii, piece, decimal, each}
-use Rattle.dump.specs.Line.{field, blocker_text, following, comma_separated, message_line, token_line, unread_line, line_text, line_of, longest_line}
-use Rattle.text.proofs.PutLaws.{put_then, put_whole}
+use Rattle.text.specs.Text.{Filled, put, Whole}
+use Rattle.dump.specs.Line.{message_line, token_line, unread_line, line_text, line_of, longest_line}
+use Rattle.text.proofs.PutLaws.{put_whole}
 use Rattle.dump.proofs.Longest.{line-short}
 
-pub none-listed : (xs : List ℕ) (f : Filled) → length xs ≡ 0 → f ≡ put (comma_separated xs) f
-unfolding put
-none-listed [] f e = refl
-none-listed (x ∷ xs) f e = absurd (omega arith)
+-- the first n of them, or all where there are fewer, as the code spells it
+pub first_taken : (n : ℕ) (xs : Bor (List ℕ)) (r : Option (Bor (List ℕ))) → IsGetRangeResult xs.now 0 n r → (unwrap_or r xs).now ≡ take n xs.now
+first_taken n xs None g = sym (take_all n xs.now (omega arith))
+first_taken n xs (Some x) g = simp sub-zero at g.0.2
 
 module _ (f : Filled) {f' : Filled} where
-  pub some-listed : (xs : List ℕ) {f₁ : Filled}
-      → (length xs ≡ 0 → ⊥)
-      → f₁ ≡ put (decimal (get_or xs 0 0)) f
-      → f' ≡ put (each following (take (length xs - 1) (drop 1 xs))) f₁
-      → f' ≡ put (comma_separated xs) f
-  some-listed [] n p q = absurd (n refl)
-  some-listed (x ∷ xs) n p q = put_then _ _ f p (rw (take_all (length (x ∷ xs) - 1) xs (omega arith)) at q)
-
-  pub nobody-put : (b : Blocker) → b ≡ Nobody → f' ≡ put (piece (ascii " aru_id=nobody")) f → f' ≡ put (blocker_text b) f
-  nobody-put b e p = rw e p
-
-  pub member-put : (b : Blocker) (id : ℕ) → b ≡ Member id → f' ≡ put (field (ascii " aru_id=") id) f → f' ≡ put (blocker_text b) f
-  member-put b id e p = rw e p
-
-  module _ (frame : List ℕ) (reading : Reading) (is : reading ≡ read_of frame) where
+  module _ (frame : List ℕ) where
     pub refused-put : (why : Refusal) (number : ℕ)
-        → reading.answer ≡ Refused why
+        → read_of frame ≡ unread_as why
         → number ≡ frame_refusal_number why
         → f' ≡ put (unread_line number) f
         → f' ≡ put (line_text frame) f
     unfolding line_text
-    refused-put why number a e p = rw (← is, a) (rw e at p)
+    refused-put why number a e p = rw a (rw e at p)
 
     pub message-put : (m : Message) (content : List ℕ)
-        → reading.answer ≡ IsMessage m
+        → read_of frame ≡ a_message m
         → content ≡ content_of frame
         → f' ≡ put (message_line m content) f
         → f' ≡ put (line_text frame) f
     unfolding line_text
-    message-put m content a e p = rw (← is, a) (rw e at p)
+    message-put m content a e p = rw a (rw e at p)
 
-    pub token-put : reading.answer ≡ IsToken → f' ≡ put (token_line reading.token) f → f' ≡ put (line_text frame) f
+    pub token-put : (t : Token) → read_of frame ≡ a_token t → f' ≡ put (token_line t) f → f' ≡ put (line_text frame) f
     unfolding line_text
-    token-put a p = rw (← is, a) p
+    token-put t a p = rw a p
 
 -- where there is room for the longest line, the whole line is put
-pub line-whole : {out : List ℕ} {at after : ℕ} {out' : List ℕ} (frame : List ℕ)
-    → at + longest_line ≤ length out
-    → filled after out' ≡ put (line_text frame) (filled at out)
-    → Whole out at (line_of frame) after out'
+pub line-whole : {before after : Filled} (frame : List ℕ)
+    → before.at + longest_line ≤ length before.out
+    → after ≡ put (line_text frame) before
+    → Whole before (line_of frame) after
 line-whole frame room p = let short = line-short frame in put_whole (line_text frame) (omega arith) p

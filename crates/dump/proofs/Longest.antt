@@ -1,4 +1,5 @@
 -- No line is longer than the longest.
+use Rattle.std.specs.Prelude.{Option, Some, None, Result}
 use Prim.Native.Nat.{ℕ, zero, suc, ◌+◌, ◌*◌, ◌/◌, ◌%◌, ◌≤◌}
 use mathlib.Core.Path.{◌≡◌, refl}
 use mathlib.Core.Bool.{Bool, true, false, cond, and-false}
@@ -17,11 +18,10 @@ use Rattle.frames.proofs.Facts.{part, message-facts, token-facts}
 use Rattle.frames.specs.declared.message.Message.{Message}
 use Rattle.frames.specs.declared.refusal.Refusal.TheVariants.{WrongLength, OtherKind, Malformed}
 use Rattle.frames.specs.declared.token.Token.{Token}
-use Rattle.frames.specs.declared.token.Blocker.{Blocker}
-use Rattle.frames.specs.declared.token.Blocker.TheVariants.{Nobody, Member}
-use Rattle.frames.specs.declared.reader.Reading.{Reading}
+use Rattle.frames.specs.declared.refusal.Refusal.{Refusal}
+use Rattle.frames.specs.declared.reader.Frame.{Frame}
 use Rattle.text.specs.Text.{Text, digits_to, decimal, is_plain, escaped_byte, each}
-use Rattle.dump.specs.Line.{longest_line, header_text, message_fields, message_line, blocker_text, following, comma_separated, requests_text, token_fields, token_line, unread_line, answer_line, line_text, line_of}
+use Rattle.dump.specs.Line.{longest_line, message_line, blocker_text, following, comma_separated, token_line, unread_line, answer_line, line_text, line_of}
 
 -- ---- texts
 
@@ -65,7 +65,6 @@ size-following : (n : ℕ) → size (following n) ≤ 11
 size-following n = rw (size-append, size-piece) (omega (arith, size-decimal n))
 
 size-each : (f : ℕ → Text) (most : ℕ) → ((x : ℕ) → size (f x) ≤ most) → (xs : List ℕ) → size (each f xs) ≤ most * length xs
-unfolding each
 size-each f most h [] = rw size_none (omega arith)
 size-each f most h (x ∷ xs) = rw (size-append, mul-suc) (omega (arith, h x, size-each f most h xs))
 
@@ -73,36 +72,33 @@ size-listed : (xs : List ℕ) → size (comma_separated xs) ≤ 11 * length xs
 size-listed [] = rw size_none (omega arith)
 size-listed (x ∷ xs) = rw size-append (omega (arith, size-decimal x, size-each following 11 size-following xs))
 
-size-blocker : (b : Blocker) → size (blocker_text b) ≤ 18
-size-blocker Nobody = rw size-piece (omega arith)
-size-blocker (Member id) = rw (size-append, size-piece) (omega (arith, size-decimal id))
+size-blocker : (b : Option ℕ) → size (blocker_text b) ≤ 18
+size-blocker None = rw size-piece (omega arith)
+size-blocker (Some id) = rw (size-append, size-piece) (omega (arith, size-decimal id))
 
 -- ---- lines
 
 size-message : (m : Message) (content : List ℕ) → length content ≤ most_content → size (message_line m content) ≤ longest_line
-unfolding message_line message_fields header_text
 size-message m content h =
     simp (size-append, size-piece)
     (omega
     (arith, length_digits 10 m.header.ring.0, length_digits 10 m.header.representative, length_digits 10 m.sender, length_digits 10 m.number.0, length_digits 10 0, length_digits 10 m.service, size-each escaped_byte 4 size-escaped-byte content))
 
 size-token : (t : Token) → t.count ≤ most_requests → size (token_line t) ≤ longest_line
-unfolding token_line token_fields header_text requests_text
 size-token t h =
     simp (size-append, size-piece)
     (omega
     (arith, length_digits 10 t.header.ring.0, length_digits 10 t.header.representative, length_digits 10 t.addressee, length_digits 10 t.number.0, length_digits 10 t.highest.0, length_digits 10 t.aru.0, size-blocker t.blocker, length_digits 10 t.round, length_digits 10 t.backlog, size-listed (take t.count (request_numbers t)), length-take t.count (request_numbers t)))
 
 size-unread : (number : ℕ) → size (unread_line number) ≤ longest_line
-unfolding unread_line
 size-unread number = simp (size-append, size-piece) (omega (arith, length_digits 10 number))
 
 -- ---- every way to read
 
-abbrev Short : List ℕ → Reading → Type 0
-Short content r = size (answer_line r.answer r.token content) ≤ longest_line
+abbrev Short : List ℕ → Result Frame Refusal → Type 0
+Short content r = size (answer_line r content) ≤ longest_line
 
-branch : (b : Bool) (content : List ℕ) (x y : Reading) → (b ≡ true → Short content x) → Short content y → Short content (cond b x y)
+branch : (b : Bool) (content : List ℕ) (x y : Result Frame Refusal) → (b ≡ true → Short content x) → Short content y → Short content (cond b x y)
 branch true content x y f h = f refl
 branch false content x y f h = h
 

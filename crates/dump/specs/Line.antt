@@ -1,5 +1,5 @@
 -- The line of one frame, in the paper's names where it has one: message ring=4 rep=3 sender_id=7 .., token ring=4 .., or no 12.
-use Rattle.std.specs.Prelude.{ℕ, take}
+use Rattle.std.specs.Prelude.{ℕ, take, Option, Some, None, Result, Ok, Err}
 use mathlib.Core.List.{List, [], ◌∷◌, ◌++◌, flatten}
 use Rattle.frames.specs.Message.{configuration, content_of}
 use Rattle.frames.specs.Token.{request_numbers}
@@ -8,21 +8,20 @@ use Rattle.frames.specs.Refusal.{frame_refusal_number}
 use Rattle.frames.specs.declared.header.Header.{Header}
 use Rattle.frames.specs.declared.message.Message.{Message}
 use Rattle.frames.specs.declared.token.Token.{Token}
-use Rattle.frames.specs.declared.token.Blocker.{Blocker}
-use Rattle.frames.specs.declared.token.Blocker.TheVariants.{Nobody, Member}
-use Rattle.frames.specs.declared.reader.Answer.{Answer}
-use Rattle.frames.specs.declared.reader.Answer.TheVariants.{Refused, IsMessage, IsToken}
+use Rattle.frames.specs.declared.refusal.Refusal.{Refusal}
+use Rattle.frames.specs.declared.reader.Frame.{Frame}
+use Rattle.frames.specs.declared.reader.Frame.TheVariants.{Message as IsMessage, Token as IsToken}
 use Rattle.text.specs.Text.{Text, ascii, piece, decimal, each, escaped}
 
 abbrev pub field : List ℕ → ℕ → Text
 field name value = piece name ++ decimal value
 
-unfoldable pub header_text : List ℕ → Header → Text
+abbrev pub header_text : List ℕ → Header → Text
 header_text kind h = piece kind ++ field (ascii " ring=") h.ring.0 ++ field (ascii " rep=") h.representative
 
 -- ---- a message; the configuration of one that reads is 0
 
-unfoldable pub message_fields : Message → Text
+abbrev pub message_fields : Message → Text
 message_fields m =
     header_text (ascii "message") m.header
     ++ field (ascii " sender_id=") m.sender
@@ -30,14 +29,14 @@ message_fields m =
     ++ field (ascii " conf_id=") configuration
     ++ field (ascii " service=") m.service
 
-unfoldable pub message_line : Message → List ℕ → Text
+abbrev pub message_line : Message → List ℕ → Text
 message_line m content = message_fields m ++ piece (ascii " contents=\"") ++ escaped content ++ piece (ascii "\"\n")
 
 -- ---- a token
 
-abbrev pub blocker_text : Blocker → Text
-blocker_text Nobody = piece (ascii " aru_id=nobody")
-blocker_text (Member id) = field (ascii " aru_id=") id
+abbrev pub blocker_text : Option ℕ → Text
+blocker_text None = piece (ascii " aru_id=nobody")
+blocker_text (Some id) = field (ascii " aru_id=") id
 
 abbrev pub following : ℕ → Text
 following n = field (ascii ",") n
@@ -47,10 +46,10 @@ abbrev pub comma_separated : List ℕ → Text
 comma_separated [] = []
 comma_separated (x ∷ xs) = decimal x ++ each following xs
 
-unfoldable pub requests_text : List ℕ → ℕ → Text
+abbrev pub requests_text : List ℕ → ℕ → Text
 requests_text requests count = piece (ascii " rtr=[") ++ comma_separated (take count requests) ++ piece (ascii "]")
 
-unfoldable pub token_fields : Token → Text
+abbrev pub token_fields : Token → Text
 token_fields t =
     header_text (ascii "token") t.header
     ++ field (ascii " addressee=") t.addressee
@@ -58,7 +57,7 @@ token_fields t =
     ++ field (ascii " seq=") t.highest.0
     ++ field (ascii " aru=") t.aru.0
 
-unfoldable pub token_line : Token → Text
+abbrev pub token_line : Token → Text
 token_line t =
     token_fields t
     ++ blocker_text t.blocker
@@ -70,16 +69,16 @@ token_line t =
 -- ---- a line
 
 -- a frame that does not read: the number of the question that refuses it
-unfoldable pub unread_line : ℕ → Text
+abbrev pub unread_line : ℕ → Text
 unread_line number = field (ascii "no ") number ++ piece (ascii "\n")
 
-abbrev pub answer_line : Answer → Token → List ℕ → Text
-answer_line (Refused why) t content = unread_line (frame_refusal_number why)
-answer_line (IsMessage m) t content = message_line m content
-answer_line IsToken t content = token_line t
+abbrev pub answer_line : Result Frame Refusal → List ℕ → Text
+answer_line (Err why) content = unread_line (frame_refusal_number why)
+answer_line (Ok (IsMessage m)) content = message_line m content
+answer_line (Ok (IsToken t)) content = token_line t
 
 unfoldable pub line_text : List ℕ → Text
-line_text frame = answer_line (read_of frame).answer (read_of frame).token (content_of frame)
+line_text frame = answer_line (read_of frame) (content_of frame)
 
 abbrev pub line_of : List ℕ → List ℕ
 line_of frame = flatten (line_text frame)

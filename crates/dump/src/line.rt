@@ -1,156 +1,121 @@
 // The line of one frame, in the paper's names where it has one: a message, a token, or the number of
 // the question that refuses it.
-ghost use Rattle.std.specs.Prelude.{◌≡◌, ◌+◌, ◌≤◌, length, take};
-ghost use Rattle.text.specs.Text.{filled, put, each, Whole};
-ghost use Rattle.dump.specs.Line.{field, header_text, message_fields, message_line, blocker_text, following, comma_separated};
+#![tactic(auto, using(text::proofs::PutLaws::put_append), unfolding(text::specs::Text::put))]
+
+ghost use Rattle.std.specs.Prelude.{◌≡◌, ◌+◌, ◌≤◌, length};
+ghost use Rattle.text.specs.Text.{put, Whole};
+ghost use Rattle.dump.specs.Line.{field, header_text, message_fields, message_line, blocker_text, comma_separated};
 ghost use Rattle.dump.specs.Line.{requests_text, token_fields, token_line, unread_line, line_of, longest_line};
 
-use frames::{Answer, Blocker, Header, Message, Token};
+use frames::{Blocker, Frame, Header, Message, Token};
+use text::Output;
 
-fn put_field(out: &mut [u8], at: usize, name: &[u8], value: u32) -> usize
-    ensures { filled result out.new ≡ put (field name.now value) (filled at out.old) }
+fn put_field(out: &mut Output, name: &[u8], value: u32)
+    ensures { out.new ≡ put (field name.now value) out.old }
 {
-    let at = text::put_bytes(out, at, name);
-    text::put_decimal(out, at, value)
+    out.put_bytes(name);
+    out.put_decimal(value);
 }
 
-fn put_id(out: &mut [u8], at: usize, name: &[u8], id: u16) -> usize
-    ensures { filled result out.new ≡ put (field name.now id) (filled at out.old) }
+fn put_header(out: &mut Output, kind: &[u8], h: Header)
+    ensures { out.new ≡ put (header_text kind.now h) out.old }
 {
-    put_field(out, at, name, id as u32)
-}
-
-fn put_header(out: &mut [u8], at: usize, kind: &[u8], h: Header) -> usize
-    ensures { filled result out.new ≡ put (header_text kind.now h) (filled at out.old) }
-{
-    let at = text::put_bytes(out, at, kind);
-    let at = put_field(out, at, b" ring=", h.ring.0);
-    put_id(out, at, b" rep=", h.representative)
+    out.put_bytes(kind);
+    put_field(out, b" ring=", h.ring.0);
+    put_field(out, b" rep=", h.representative as u32);
 }
 
 // The configuration of a message that reads is 0.
-fn put_message_fields(out: &mut [u8], at: usize, m: Message) -> usize
-    ensures { filled result out.new ≡ put (message_fields m) (filled at out.old) }
+fn put_message_fields(out: &mut Output, m: Message)
+    ensures { out.new ≡ put (message_fields m) out.old }
 {
-    let at = put_header(out, at, b"message", m.header);
-    let at = put_id(out, at, b" sender_id=", m.sender);
-    let at = put_field(out, at, b" seq=", m.number.0);
-    let at = put_field(out, at, b" conf_id=", 0);
-    put_id(out, at, b" service=", m.service)
+    put_header(out, b"message", m.header);
+    put_field(out, b" sender_id=", m.sender as u32);
+    put_field(out, b" seq=", m.number.0);
+    put_field(out, b" conf_id=", 0);
+    put_field(out, b" service=", m.service as u32);
 }
 
-fn put_message(out: &mut [u8], at: usize, m: Message, content: &[u8]) -> usize
-    ensures { filled result out.new ≡ put (message_line m content.now) (filled at out.old) }
+fn put_message(out: &mut Output, m: Message, content: &[u8])
+    ensures { out.new ≡ put (message_line m content.now) out.old }
 {
-    let at = put_message_fields(out, at, m);
-    let at = text::put_bytes(out, at, b" contents=\"");
-    let at = text::put_escaped(out, at, content);
-    text::put_bytes(out, at, b"\"\n")
+    put_message_fields(out, m);
+    out.put_bytes(b" contents=\"");
+    out.put_escaped(content);
+    out.put_bytes(b"\"\n");
 }
 
-fn put_blocker(out: &mut [u8], at: usize, b: Blocker) -> usize
-    ensures { filled result out.new ≡ put (blocker_text b) (filled at out.old) }
+fn put_blocker(out: &mut Output, b: Blocker)
+    ensures { out.new ≡ put (blocker_text b) out.old }
 {
     match b {
-        Blocker::Nobody => text::put_bytes(out, at, b" aru_id=nobody"),
-        Blocker::Member(id) => put_id(out, at, b" aru_id=", id),
+        None => out.put_bytes(b" aru_id=nobody"),
+        Some(id) => put_field(out, b" aru_id=", id as u32),
     }
 }
 
-fn put_next(out: &mut [u8], at: usize, number: u32) -> usize
-    ensures { filled result out.new ≡ put (following number) (filled at out.old) }
+// A comma between each two.
+#[tactic(auto, using(text::proofs::PutLaws::put_append, text::proofs::PutLaws::each_goes), unfolding(text::specs::Text::put))]
+fn put_numbers(out: &mut Output, numbers: &[u32])
+    ensures { out.new ≡ put (comma_separated numbers.now) out.old }
 {
-    put_field(out, at, b",", number)
-}
-
-fn put_following(out: &mut [u8], at: usize, numbers: &[u32]) -> usize
-    ensures { filled result out.new ≡ put (each following numbers.now) (filled at out.old) }
-{
-    let mut at = at;
-    let mut i = 0;
-    while i < numbers.len() {
-        at = put_next(out, at, numbers[i]);
-        i += 1;
+    if let Some((first, rest)) = numbers.split_first() {
+        out.put_decimal(*first);
+        for &number in rest {
+            put_field(out, b",", number);
+        }
     }
-    at
 }
 
-fn put_numbers(out: &mut [u8], at: usize, numbers: &[u32]) -> usize
-    ensures { filled result out.new ≡ put (comma_separated numbers.now) (filled at out.old) }
+#[tactic(auto, using(text::proofs::PutLaws::put_append, crate::proofs::LineLaws::first_taken), unfolding(text::specs::Text::put))]
+fn put_requests(out: &mut Output, requests: &[u32; frames::MOST_REQUESTS], count: u16)
+    ensures { out.new ≡ put (requests_text requests.now count) out.old }
 {
-    if numbers.len() == 0 {
-        return at;
-    }
-    let at = text::put_decimal(out, at, numbers[0]);
-    put_following(out, at, &numbers[1..])
+    out.put_bytes(b" rtr=[");
+    put_numbers(out, requests.get(..count as usize).unwrap_or(requests));
+    out.put_bytes(b"]");
 }
 
-fn first(numbers: &[u32], n: usize) -> &[u32]
-    ensures { result.now ≡ take n numbers.now }
+fn put_token_fields(out: &mut Output, t: Token)
+    ensures { out.new ≡ put (token_fields t) out.old }
 {
-    if numbers.len() < n {
-        return numbers;
-    }
-    &numbers[0..n]
+    put_header(out, b"token", t.header);
+    put_field(out, b" addressee=", t.addressee as u32);
+    put_field(out, b" token_seq=", t.number.0);
+    put_field(out, b" seq=", t.highest.0);
+    put_field(out, b" aru=", t.aru.0);
 }
 
-fn put_requests(
-    out: &mut [u8],
-    at: usize,
-    requests: &[u32; frames::MOST_REQUESTS],
-    count: u16,
-) -> usize
-    ensures { filled result out.new ≡ put (requests_text requests.now count) (filled at out.old) }
+fn put_token(out: &mut Output, t: Token)
+    ensures { out.new ≡ put (token_line t) out.old }
 {
-    let at = text::put_bytes(out, at, b" rtr=[");
-    let at = put_numbers(out, at, first(requests, count as usize));
-    text::put_bytes(out, at, b"]")
+    let requests = frames::numbers_in(t.requests);
+    put_token_fields(out, t);
+    put_blocker(out, t.blocker);
+    put_field(out, b" fcc=", t.round as u32);
+    put_field(out, b" backlog=", t.backlog as u32);
+    put_requests(out, &requests, t.count);
+    out.put_bytes(b"\n");
 }
 
-fn put_token_fields(out: &mut [u8], at: usize, t: Token) -> usize
-    ensures { filled result out.new ≡ put (token_fields t) (filled at out.old) }
+fn put_refusal(out: &mut Output, number: u16)
+    ensures { out.new ≡ put (unread_line number) out.old }
 {
-    let at = put_header(out, at, b"token", t.header);
-    let at = put_id(out, at, b" addressee=", t.addressee);
-    let at = put_field(out, at, b" token_seq=", t.number.0);
-    let at = put_field(out, at, b" seq=", t.highest.0);
-    put_field(out, at, b" aru=", t.aru.0)
-}
-
-fn put_token(out: &mut [u8], at: usize, t: Token) -> usize
-    ensures { filled result out.new ≡ put (token_line t) (filled at out.old) }
-{
-    let blocker = t.blocker;
-    let places = t.requests;
-    let requests = frames::numbers_in(places);
-    let at = put_token_fields(out, at, t);
-    let at = put_blocker(out, at, blocker);
-    let at = put_id(out, at, b" fcc=", t.round);
-    let at = put_id(out, at, b" backlog=", t.backlog);
-    let at = put_requests(out, at, &requests, t.count);
-    text::put_bytes(out, at, b"\n")
-}
-
-fn put_refusal(out: &mut [u8], at: usize, number: u16) -> usize
-    ensures { filled result out.new ≡ put (unread_line number) (filled at out.old) }
-{
-    let at = put_id(out, at, b"no ", number);
-    text::put_bytes(out, at, b"\n")
+    put_field(out, b"no ", number as u32);
+    out.put_bytes(b"\n");
 }
 
 // No line is longer.
 pub const LONGEST_LINE: usize = 512;
 
 // The line of one frame, whole. Ruled out: two fields swapped; a line cut short.
-pub fn put_line(out: &mut [u8], at: usize, frame: &[u8]) -> usize
-    requires { at + longest_line ≤ length out.old }
-    ensures { Whole out.old at (line_of frame.now) result out.new }
+pub fn put_line(out: &mut Output, frame: &[u8])
+    requires { out.old.at + longest_line ≤ length out.old.out }
+    ensures { Whole out.old (line_of frame.now) out.new }
 {
-    let reading = frames::read(frame);
-    let answer = reading.answer;
-    match answer {
-        Answer::Refused(why) => put_refusal(out, at, frames::refusal_number(why)),
-        Answer::IsMessage(m) => put_message(out, at, m, frames::content(frame)),
-        Answer::IsToken => put_token(out, at, reading.token),
+    match frames::read(frame) {
+        Err(why) => put_refusal(out, u16::from(why)),
+        Ok(Frame::Message(m)) => put_message(out, m, frames::content(frame)),
+        Ok(Frame::Token(t)) => put_token(out, t),
     }
 }

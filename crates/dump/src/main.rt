@@ -5,153 +5,92 @@
 mod input;
 mod line;
 
-ghost use Rattle.std.specs.Prelude.{◌+◌, ◌≤◌, ◌<◌, length};
+ghost use Rattle.std.specs.Prelude.{◌+◌, ◌≤◌, ◌<◌, length, IfOk, IfSome};
 ghost use Rattle.frames.specs.Layout.{most_framed};
-ghost use Rattle.dump.specs.Line.{longest_line};
 
-use std::io::Read;
+use std::io::{Read, Result};
+use text::Output;
 
-// Answers whether all was written; a write that fails is reported.
-fn flush(rt: &(impl Print + Eprint), out: &[u8], used: usize) -> bool
-    requires { used ≤ length out.now }
-{
-    match rt.write_all(&out[0..used]) {
-        Ok(()) => true,
-        Err(e) => {
-            let _ = eprintln!(rt; "standard output: {e}");
-            false
-        }
-    }
+// A line more.
+fn show(rt: &impl Print, frame: &[u8], out: &mut Output) -> Result<()> {
+    out.make_room(rt, line::LONGEST_LINE)?;
+    line::put_line(out, frame);
+    Ok(())
 }
 
-// Reads once, and answers how many bytes came; a read that fails is reported, and nothing came.
-fn read_some(rt: &impl Eprint, stream: &mut impl Read, buffer: &mut [u8]) -> usize
-    ensures { result ≤ length buffer.new }
-{
-    match stream.read(buffer) {
-        Ok(n) => n,
-        Err(e) => {
-            let _ = eprintln!(rt; "standard input: {e}");
-            0
-        }
-    }
-}
-
-// How far a step came in a buffer, and whether the program goes on.
-#[derive(Clone, Copy)]
-struct Progress {
-    at: usize,
-    goes_on: bool,
-}
-
-// Where the next line goes in `out`, of which `used` bytes are taken: a line is sure to fit there.
-fn make_room(rt: &(impl Print + Eprint), out: &[u8], used: usize) -> Progress
-    requires { (used ≤ length out.now) × (longest_line ≤ length out.now) }
-    ensures { result.at + longest_line ≤ length out.now }
-{
-    if line::LONGEST_LINE <= out.len() - used {
-        return Progress {
-            at: used,
-            goes_on: true,
-        };
-    }
-    Progress {
-        at: 0,
-        goes_on: flush(rt, out, used),
-    }
-}
-
-// Writes the line of each whole frame of `input`. What is left is a part of one frame, or nothing.
-fn show_frames(rt: &(impl Print + Eprint), input: &[u8], out: &mut [u8]) -> Progress
-    requires { longest_line ≤ length out.old }
-    ensures { (result.at ≤ length input.now) × (length input.now < result.at + most_framed) }
+// Writes the line of each whole frame of `input`, and answers where they end. What is left is a part
+// of one frame, or nothing. Frames have any length, so no method of slices cuts them.
+fn show_frames(rt: &impl Print, input: &[u8], out: &mut Output) -> Result<usize>
+    ensures { IfOk result (λ at. (at ≤ length input.now) × (length input.now < at + most_framed)) }
 {
     let mut from = 0;
-    let mut used = 0;
-    let mut size = input::whole_size(input);
-    while size > 0 {
-        let room = make_room(rt, out, used);
-        if !room.goes_on {
-            return Progress {
-                at: input.len(),
-                goes_on: false,
-            };
-        }
-        used = line::put_line(out, room.at, &input[from..from + size]);
+    while let Some(size) = input::whole_size(&input[from..]) {
+        show(rt, &input[from..from + size], out)?;
         from += size;
-        size = input::whole_size(&input[from..]);
     }
-    Progress {
-        at: from,
-        goes_on: flush(rt, out, used),
-    }
+    out.flush(rt)?;
+    Ok(from)
 }
 
 // The input ended within a frame, so that it does not read.
-fn show_rest(rt: &(impl Print + Eprint), rest: &[u8], out: &mut [u8])
-    requires { longest_line ≤ length out.old }
-{
-    if rest.len() == 0 {
-        return;
+fn show_rest(rt: &impl Print, rest: &[u8], out: &mut Output) -> Result<()> {
+    if !rest.is_empty() {
+        show(rt, rest, out)?;
+        out.flush(rt)?;
     }
-    let used = line::put_line(out, 0, rest);
-    flush(rt, out, used);
+    Ok(())
 }
 
 // Reads once, after the first `held` bytes of `buffer`, a frame that is not whole, and writes the
-// lines of the frames that are whole then. Answers how many bytes are held for the next turn. The
-// buffer has room for any frame, so there is always room to read, and nothing read is the end.
+// lines of the frames that are whole then. Answers how many bytes are held for the next turn, or none
+// at the input's end. The buffer has room for any frame, so there is always room to read, and nothing
+// read is the end.
 fn take_turn(
     rt: &(impl Print + Eprint),
     stream: &mut impl Read,
     buffer: &mut [u8],
     held: usize,
-    out: &mut [u8],
-) -> Progress
-    requires { (held < most_framed) × (most_framed ≤ length buffer.old) × (longest_line ≤ length out.old) }
-    ensures { result.at < most_framed }
+    out: &mut Output,
+) -> Result<Option<usize>>
+    requires { (held < most_framed) × (most_framed ≤ length buffer.old) }
+    ensures { IfOk result (λ o. IfSome o (λ held. held < most_framed)) }
 {
-    let more = read_some(rt, stream, &mut buffer[held..]);
+    let more = text::read_some(rt, stream, &mut buffer[held..]);
     if more == 0 {
-        show_rest(rt, &buffer[0..held], out);
-        return Progress {
-            at: held,
-            goes_on: false,
-        };
+        show_rest(rt, &buffer[..held], out)?;
+        return Ok(None);
     }
     let end = held + more;
-    let shown = show_frames(rt, &buffer[0..end], out);
-    let from = shown.at;
-    Progress {
-        at: input::keep_rest(buffer, from, end),
-        goes_on: shown.goes_on,
-    }
+    let from = show_frames(rt, &buffer[..end], out)?;
+    Ok(Some(input::keep_rest(buffer, from, end)))
 }
 
-// A proved loop has to end, and nothing says that the input does. So it counts its turns down, from
-// a number that no run uses up.
-fn show_all(rt: &(impl Print + Eprint), stream: &mut impl Read, buffer: &mut [u8], out: &mut [u8])
-    requires { (most_framed ≤ length buffer.old) × (longest_line ≤ length out.old) }
+// A proved loop has to end, and nothing says that the input does: no run uses up so many turns.
+fn show_all(
+    rt: &(impl Print + Eprint),
+    stream: &mut impl Read,
+    buffer: &mut [u8],
+    out: &mut Output,
+) -> Result<()>
+    requires { most_framed ≤ length buffer.old }
 {
     let mut held = 0;
-    let mut turns = u64::MAX;
-    while turns > 0 {
-        let turn = take_turn(rt, stream, buffer, held, out);
-        if !turn.goes_on {
-            return;
+    for _ in 0..u64::MAX {
+        match take_turn(rt, stream, buffer, held, out)? {
+            Some(n) => held = n,
+            None => return Ok(()),
         }
-        held = turn.at;
-        turns -= 1;
     }
+    Ok(())
 }
 
 const INPUT_ROOM: usize = 131072;
 
-const OUTPUT_ROOM: usize = 65536;
-
 fn main(rt: HostRuntime) {
     let mut stream = rt.stdin();
     let mut buffer = [0u8; INPUT_ROOM];
-    let mut out = [0u8; OUTPUT_ROOM];
-    show_all(&rt, &mut stream, &mut buffer, &mut out);
+    let mut out = Output::new();
+    if let Err(e) = show_all(&rt, &mut stream, &mut buffer, &mut out) {
+        let _ = eprintln!(rt; "standard output: {e}");
+    }
 }

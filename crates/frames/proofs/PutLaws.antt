@@ -15,21 +15,21 @@ use Rattle.frames.specs.declared.message.Message.{Message}
 use Rattle.frames.specs.declared.token.Token.{Token}
 use Rattle.frames.proofs.Sizes.{header-length, counts-length}
 
-pub header-stored : (size kind : ℕ) (h : Header) (l l₁ l₂ l₃ l₄ : List ℕ)
+pub header_stored : (size kind : ℕ) (h : Header) (l l₁ l₂ l₃ l₄ : List ℕ)
     → l₁ ≡ sets l length_at (word_bytes 2 ((size - length_size) % 65536))
     → l₂ ≡ sets l₁ kind_at (word_bytes 2 kind)
     → l₃ ≡ sets l₂ ring_at (word_bytes 4 h.ring.0)
     → l₄ ≡ sets l₃ representative_at (word_bytes 2 h.representative)
     → l₄ ≡ sets l 0 (header_bytes size kind h)
 unfolding header_bytes
-header-stored size kind h l l₁ l₂ l₃ l₄ e₁ e₂ e₃ e₄ =
+header_stored size kind h l l₁ l₂ l₃ l₄ e₁ e₂ e₃ e₄ =
     let w₁ = stored-word 2 (size - length_size) l₁ (stored-none l 0) (e₁ ∙ ap (sets l length_at) (bytes_low 2 (size - length_size))) in
     let w₂ = stored-word 2 kind l₂ w₁ e₂ in
     let w₃ = stored-word 4 h.ring.0 l₃ w₂ e₃ in
     let w₄ = stored-word 2 h.representative l₄ w₃ e₄ in
     w₄.is
 
-pub message-stored : (m : Message) (size : ℕ) (l l₁ l₂ l₃ l₄ l₅ : List ℕ)
+pub message_stored : (m : Message) (size : ℕ) (l l₁ l₂ l₃ l₄ l₅ : List ℕ)
     → l₁ ≡ sets l 0 (header_bytes size message_kind m.header)
     → l₂ ≡ sets l₁ sender_at (word_bytes 2 m.sender)
     → l₃ ≡ sets l₂ message_number_at (word_bytes 4 m.number.0)
@@ -37,7 +37,7 @@ pub message-stored : (m : Message) (size : ℕ) (l l₁ l₂ l₃ l₄ l₅ : Li
     → l₅ ≡ sets l₄ service_at (word_bytes 2 m.service)
     → l₅ ≡ sets l 0 (message_fixed m size)
 unfolding message_fixed
-message-stored m size l l₁ l₂ l₃ l₄ l₅ e₁ e₂ e₃ e₄ e₅ =
+message_stored m size l l₁ l₂ l₃ l₄ l₅ e₁ e₂ e₃ e₄ e₅ =
     let w₁ = stored_next header_size (header_bytes size message_kind m.header) l₁ (stored-none l 0) (header-length size message_kind m.header) e₁ in
     let w₂ = stored-word 2 m.sender l₂ w₁ e₂ in
     let w₃ = stored-word 4 m.number.0 l₃ w₂ e₃ in
@@ -45,18 +45,18 @@ message-stored m size l l₁ l₂ l₃ l₄ l₅ e₁ e₂ e₃ e₄ e₅ =
     let w₅ = stored-word 2 m.service l₅ w₄ e₅ in
     w₅.is
 
-pub counts-stored : (t : Token) (l l₁ l₂ l₃ : List ℕ)
+pub counts_stored : (t : Token) (l l₁ l₂ l₃ : List ℕ)
     → l₁ ≡ sets l round_at (word_bytes 2 t.round)
     → l₂ ≡ sets l₁ backlog_at (word_bytes 2 t.backlog)
     → l₃ ≡ sets l₂ count_at (word_bytes 2 t.count)
     → l₃ ≡ sets l round_at (token_counts t)
-counts-stored t l l₁ l₂ l₃ e₁ e₂ e₃ =
+counts_stored t l l₁ l₂ l₃ e₁ e₂ e₃ =
     let w₁ = stored-word 2 t.round l₁ (stored-none l round_at) e₁ in
     let w₂ = stored-word 2 t.backlog l₂ w₁ e₂ in
     let w₃ = stored-word 2 t.count l₃ w₂ e₃ in
     w₃.is
 
-pub token-stored : (t : Token) (size blocker : ℕ) (l l₁ l₂ l₃ l₄ l₅ l₆ l₇ : List ℕ)
+pub token_stored : (t : Token) (size blocker : ℕ) (l l₁ l₂ l₃ l₄ l₅ l₆ l₇ : List ℕ)
     → size ≡ token_size t.count
     → blocker ≡ blocker_id t.blocker
     → l₁ ≡ sets l 0 (header_bytes size token_kind t.header)
@@ -68,7 +68,7 @@ pub token-stored : (t : Token) (size blocker : ℕ) (l l₁ l₂ l₃ l₄ l₅ 
     → l₇ ≡ sets l₆ round_at (token_counts t)
     → l₇ ≡ sets l 0 (token_fixed t)
 unfolding token_fixed
-token-stored t size blocker l l₁ l₂ l₃ l₄ l₅ l₆ l₇ sized blocked e₁ e₂ e₃ e₄ e₅ e₆ e₇ =
+token_stored t size blocker l l₁ l₂ l₃ l₄ l₅ l₆ l₇ sized blocked e₁ e₂ e₃ e₄ e₅ e₆ e₇ =
     let w₁ = stored_next header_size (header_bytes size token_kind t.header) l₁ (stored-none l 0) (header-length size token_kind t.header) e₁ in
     let w₂ = stored-word 2 t.addressee l₂ w₁ e₂ in
     let w₃ = stored-word 4 t.number.0 l₃ w₂ e₃ in

@@ -20,8 +20,7 @@ use Rattle.frames.specs.Message.{configuration, message_of, content_of, message_
 use Rattle.frames.specs.Token.{blocker_of, blocker_id, blocker_follows, request_count, request_numbers, requests_of, token_of, token_fixed, token_bytes}
 use Rattle.frames.specs.RoundTrip.{MessageRestored, TokenRestored}
 use Rattle.frames.specs.declared.number.MessageNumber.{MessageNumber}
-use Rattle.frames.specs.declared.token.Blocker.{Blocker}
-use Rattle.frames.specs.declared.token.Blocker.TheVariants.{Nobody, Member}
+use Rattle.std.specs.Prelude.{Option, Some, None}
 use Rattle.frames.specs.declared.token.Token.{Token}
 use Rattle.frames.specs.declared.header.Header.{Header}
 use Rattle.frames.specs.declared.message.Message.{Message}
@@ -87,14 +86,14 @@ message-restored m content follows =
     let size : length s ≡ message_size (length content) = message-length m content in
     let exact : length s ≡ length_size + word_at 2 s length_at = omega (arith, size, message-length-back m content facts) in
     let rest = message-content m content in
-    let right = message-right s m content true (omega (arith, size)) (message-configuration m content) (sym (message-back m content facts)) (sym rest) (sym follows) refl in
+    let right = message-right s m content (omega (arith, size)) (message-configuration m content) (sym (message-back m content facts)) (sym rest) follows in
     (sym (read-as-message s (omega (arith, size)) exact (message-kind m content)) ∙ sym right, rest)
 
 -- ---- a token
 
-blocker-back : (b : Blocker) (aru highest : ℕ) → blocker_follows b aru highest ≡ true → (blocker_id b < 65536) × (blocker_of (blocker_id b) ≡ b)
-blocker-back Nobody aru highest e = (omega arith, refl)
-blocker-back (Member id) aru highest e =
+blocker-back : (b : Option ℕ) (aru highest : ℕ) → blocker_follows b aru highest ≡ true → (blocker_id b < 65536) × (blocker_of (blocker_id b) ≡ b)
+blocker-back None aru highest e = (omega arith, refl)
+blocker-back (Some id) aru highest e =
     let low : 1 ≤ id = leb-true 1 id (part e (λ (f : leb 1 id ≡ false). simp (f, and-false))) in
     let high : id ≤ most_id = leb-true id most_id (part e (λ (f : leb id most_id ≡ false). simp (f, and-false))) in
     let some : id ≡ 0 → ⊥ = omega arith in
@@ -114,7 +113,7 @@ requests-back n requests highest most facts =
     let zeros : drop n requests ≡ replicate (most_requests - n) 0 = rw rest at (zeros-are (drop n requests) facts.rest) in
     rw (first, ← zeros) (take-append-drop n requests)
 
-token-same : (t : Token) (header : Header) (addressee number highest aru : ℕ) (blocker : Blocker) (round backlog count : ℕ) (requests : List MessageNumber)
+token-same : (t : Token) (header : Header) (addressee number highest aru : ℕ) (blocker : Option ℕ) (round backlog count : ℕ) (requests : List MessageNumber)
     → header ≡ t.header
     → addressee ≡ t.addressee
     → number ≡ t.number.0
@@ -168,5 +167,5 @@ token-restored t follows =
     let count = token-count-back t facts in
     let size : length s ≡ token_size t.count = token-length t (omega (arith, facts.requests.few, facts.requests.places)) in
     let exact : length s ≡ length_size + word_at 2 s length_at = omega (arith, size, token-length-back t facts) in
-    let right = token-right s t true (omega (arith, size)) (omega (arith, count, facts.requests.few)) (omega (arith, size, count)) (sym (token_back t facts)) (sym follows) refl in
+    let right = token-right s t (omega (arith, size)) (omega (arith, count, facts.requests.few)) (omega (arith, size, count)) (sym (token_back t facts)) follows in
     sym (read-as-token s (omega (arith, size)) exact (token-kind t)) ∙ sym right

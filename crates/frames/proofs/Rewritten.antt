@@ -22,34 +22,34 @@ use Rattle.frames.specs.declared.refusal.Refusal.{Refusal}
 use Rattle.frames.specs.declared.refusal.Refusal.TheVariants.{WrongLength, OtherKind, Malformed}
 use Rattle.frames.specs.declared.message.Message.{Message}
 use Rattle.frames.specs.declared.token.Token.{Token}
-use Rattle.frames.specs.declared.reader.Answer.{Answer}
-use Rattle.frames.specs.declared.reader.Answer.TheVariants.{Refused, IsMessage, IsToken}
-use Rattle.frames.specs.declared.reader.Reading.{Reading}
+use Rattle.std.specs.Prelude.{Result, Ok, Err}
+use Rattle.frames.specs.declared.reader.Frame.{Frame}
+use Rattle.frames.specs.declared.reader.Frame.TheVariants.{Message as IsMessage, Token as IsToken}
 use Rattle.frames.proofs.NumberedLaws.{numbers-back}
 use Rattle.frames.proofs.Facts.{part}
 
 -- ---- which way the reader went
 
-cond-first : (b : Bool) (x y z : Reading) → cond b x y ≡ z → (y ≡ z → ⊥) → (b ≡ true) × (x ≡ z)
+cond-first : (b : Bool) (x y z : Result Frame Refusal) → cond b x y ≡ z → (y ≡ z → ⊥) → (b ≡ true) × (x ≡ z)
 cond-first true x y z e other = (refl, e)
 cond-first false x y z e other = absurd (other e)
 
-cond-second : (b : Bool) (x y z : Reading) → cond b x y ≡ z → (x ≡ z → ⊥) → (b ≡ false) × (y ≡ z)
+cond-second : (b : Bool) (x y z : Result Frame Refusal) → cond b x y ≡ z → (x ≡ z → ⊥) → (b ≡ false) × (y ≡ z)
 cond-second true x y z e other = absurd (other e)
 cond-second false x y z e other = (refl, e)
 
-cond-neither : (b : Bool) (x y z : Reading) → (x ≡ z → ⊥) → (y ≡ z → ⊥) → cond b x y ≡ z → ⊥
+cond-neither : (b : Bool) (x y z : Result Frame Refusal) → (x ≡ z → ⊥) → (y ≡ z → ⊥) → cond b x y ≡ z → ⊥
 cond-neither true x y z p q e = p e
 cond-neither false x y z p q e = q e
 
 -- which of the three answers: it tells them apart
-which : Answer → ℕ
-which (Refused why) = 0
-which (IsMessage m) = 1
-which IsToken = 2
+which : Result Frame Refusal → ℕ
+which (Err why) = 0
+which (Ok (IsMessage m)) = 1
+which (Ok (IsToken t)) = 2
 
-apart : (x y : Reading) → x ≡ y → which x.answer ≡ which y.answer
-apart x y e = ap (λ (r : Reading). which r.answer) e
+apart : (x y : Result Frame Refusal) → x ≡ y → which x ≡ which y
+apart x y e = ap which e
 
 pub message-not-token : (m : Message) (t : Token) → a_message m ≡ a_token t → ⊥
 unfolding which
@@ -76,11 +76,11 @@ exact-facts s e =
     }
 
 -- the way in, for whatever is read but a refusal
-record Entered (s : List ℕ) (z : Reading) : Type 0 where
+record Entered (s : List ℕ) (z : Result Frame Refusal) : Type 0 where
   exact : Exact s
   by-kind : by_kind (word_at 2 s kind_at) (read_message s) (read_token s) (unread_as OtherKind) ≡ z
 
-entered : (s : List ℕ) (z : Reading) → ((why : Refusal) → unread_as why ≡ z → ⊥) → read_of s ≡ z → Entered s z
+entered : (s : List ℕ) (z : Result Frame Refusal) → ((why : Refusal) → unread_as why ≡ z → ⊥) → read_of s ≡ z → Entered s z
 unfolding read_of
 entered s z read e =
     let first = cond-first (length_exact s) (by_kind (word_at 2 s kind_at) (read_message s) (read_token s) (unread_as OtherKind)) (unread_as WrongLength) z e (read WrongLength) in
@@ -122,7 +122,7 @@ message-read s m e =
     let no_other = cond-neither (eqb kind token_kind) (read_token s) (unread_as OtherKind) (a_message m) no-token (read OtherKind) in
     let kinded = cond-first (eqb kind message_kind) (read_message s) (cond (eqb kind token_kind) (read_token s) (unread_as OtherKind)) (a_message m) way.by-kind no_other in
     let reads = cond-first (message_reads s) (a_message (message_of s)) (unread_as Malformed) (a_message m) kinded.1 (read Malformed) in
-    let answer : IsMessage (message_of s) ≡ IsMessage m = ap (λ (r : Reading). r.answer) reads.1 in
+    let answer : a_message (message_of s) ≡ a_message m = reads.1 in
     record {
       exact = way.exact;
       kind = eqb-true kind message_kind kinded.0;
@@ -178,7 +178,7 @@ token-read s t e =
       kind = eqb-true kind token_kind kinded.0;
       size = eqb-true (length s) (token_size (request_count s)) (part reads.0 (λ (f : eqb (length s) (token_size (request_count s)) ≡ false). simp (f, and-false)));
       follows = part reads.0 (λ (f : token_follows (token_of s) ≡ false). simp (f, and-false));
-      values = ap (λ (r : Reading). r.token) reads.1;
+      values = let answer : a_token (token_of s) ≡ a_token t = reads.1 in cc;
     }
 
 blocker-there : (id : ℕ) → blocker_id (blocker_of id) ≡ id

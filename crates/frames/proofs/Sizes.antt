@@ -1,17 +1,17 @@
 -- How many bytes each part of a frame has.
-use Prim.Native.Nat.{ℕ, ◌+◌, ◌<◌, ◌≤◌}
+use Prim.Native.Nat.{ℕ, ◌<◌, ◌≤◌}
 use mathlib.Core.Path.{◌≡◌, refl}
 use mathlib.Core.Bool.{Bool, true, false, cond}
 use mathlib.Core.List.{List}
-use borrow.Author.Tests.{leb-false, le-leb}
+use borrow.Author.Tests.{leb-false}
 use native.Mathlib.Omega.{arith}
 use lib.Dec.{leb}
-use Rattle.words.specs.Word.{word_at}
+use Rattle.std.specs.Prelude.{Some, None}
 use lib.ListN.{length, length-append}
 use lib.Seq.{length-take-le}
 use Rattle.words.proofs.WordLaws.{length-word}
 use Rattle.words.proofs.RunLaws.{length-words-bytes}
-use Rattle.frames.specs.Layout.{length_at, length_size, header_size, content_at, message_size, requests_at, token_size}
+use Rattle.frames.specs.Layout.{length_size, header_size, content_at, message_size, requests_at, token_size}
 use Rattle.frames.specs.Header.{own_size, framed_size, header_bytes}
 use Rattle.frames.specs.Message.{message_fixed, message_bytes}
 use Rattle.frames.specs.Token.{request_numbers, token_counts, token_fixed, token_bytes}
@@ -42,14 +42,19 @@ token-length t few = simp (length-append, token-fixed-length, length-words-bytes
 
 -- ---- a stream
 
-none-framed : (b : Bool) (n : ℕ) → cond b (length_size + n) 0 ≡ 0 → b ≡ false
-none-framed true n e = absurd (omega arith)
+none-framed : (b : Bool) (n : ℕ) → cond b (Some n) None ≡ None → b ≡ false
+none-framed true n e = cc
 none-framed false n e = refl
 
-pub framed-none : (s : List ℕ) → framed_size s ≡ 0 → length s < length_size
+pub framed-none : (s : List ℕ) → framed_size s ≡ None → length s < length_size
 unfolding framed_size
-framed-none s e = leb-false length_size (length s) (none-framed (leb length_size (length s)) (word_at 2 s length_at) e)
+framed-none s e = leb-false length_size (length s) (none-framed (leb length_size (length s)) (own_size s) e)
 
-pub framed-own : (s : List ℕ) → length_size ≤ length s → framed_size s ≡ own_size s
+some-framed : (b : Bool) (n k : ℕ) → cond b (Some n) None ≡ Some k → n ≡ k
+some-framed true n k e = cc
+some-framed false n k e = let z : ◌≡◌ {A = ℕ} 0 1 = cc in absurd (omega arith)
+
+-- what is found is the size by the length field
+pub framed-is : (s : List ℕ) (n : ℕ) → framed_size s ≡ Some n → own_size s ≡ n
 unfolding framed_size
-framed-own s h = rw (le-leb length_size (length s) h)
+framed-is s n e = some-framed (leb length_size (length s)) (own_size s) n e

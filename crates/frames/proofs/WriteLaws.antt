@@ -15,8 +15,8 @@ use Rattle.frames.specs.Message.{message_follows, message_fixed, message_bytes}
 use Rattle.frames.specs.Token.{request_numbers, token_follows, token_fixed, token_bytes}
 use Rattle.frames.specs.Write.{WriteOutcome, write_outcome_of, writing_of, message_written, token_written, frame_put, message_put, token_put}
 use Rattle.frames.specs.declared.refusal.Refusal.TheVariants.{NoRoom, Malformed}
-use Rattle.frames.specs.declared.writer.Written.{Written}
-use Rattle.frames.specs.declared.writer.Written.TheVariants.{Size, Refused}
+use Rattle.std.specs.Prelude.{Result, Ok, Err}
+use Rattle.frames.specs.declared.refusal.Refusal.{Refusal}
 use Rattle.frames.specs.declared.message.Message.{Message}
 use Rattle.frames.specs.declared.token.Token.{Token}
 use Rattle.frames.proofs.RefusalLaws.{some_number, number-fixes}
@@ -24,7 +24,7 @@ use Rattle.frames.proofs.Facts.{token-facts}
 use Rattle.frames.proofs.Sizes.{message-fixed-length, message-length, token-fixed-length, token-length}
 
 module _ (follows : Bool) (frame out : List ℕ) where
-  pub write-malformed : follows ≡ false → (write_outcome_of (Refused Malformed) ≡ (writing_of follows frame out).outcome) × (out ≡ (writing_of follows frame out).out)
+  pub write-malformed : follows ≡ false → (write_outcome_of (Err Malformed) ≡ (writing_of follows frame out).outcome) × (out ≡ (writing_of follows frame out).out)
   unfolding writing_of
   write-malformed bad = (rw bad, rw bad)
 
@@ -32,11 +32,11 @@ module _ (follows : Bool) (frame out : List ℕ) where
       → follows ≡ true
       → length frame ≡ n
       → length out < n
-      → (write_outcome_of (Refused NoRoom) ≡ (writing_of follows frame out).outcome) × (out ≡ (writing_of follows frame out).out)
+      → (write_outcome_of (Err NoRoom) ≡ (writing_of follows frame out).outcome) × (out ≡ (writing_of follows frame out).out)
   unfolding writing_of
   write-roomless n ok size less = let short = lt-leb n (length out) less in (rw (ok, size, short), rw (ok, size, short))
 
-  pub write-counted : (n : ℕ) → follows ≡ true → length frame ≡ n → n ≤ length out → write_outcome_of (Size n) ≡ (writing_of follows frame out).outcome
+  pub write-counted : (n : ℕ) → follows ≡ true → length frame ≡ n → n ≤ length out → write_outcome_of (Ok n) ≡ (writing_of follows frame out).outcome
   unfolding writing_of
   write-counted n ok size room = rw (ok, size, le-leb n (length out) room)
 
@@ -79,11 +79,11 @@ token-put t out ok room =
     sym (put-short t out facts.few) ∙ put_written (token_bytes t) out (token_follows t) (token_size t.count) ok (token-length t (omega (arith, facts.few, facts.places))) room
 
 -- the outcome fixes the answer
-pub outcome-fixes : (a b : Written) → write_outcome_of a ≡ write_outcome_of b → a ≡ b
-outcome-fixes (Size m) (Size n) e = ap Size (ap (λ (o : WriteOutcome). o.count) e)
-outcome-fixes (Size m) (Refused why) e = absurd (some_number why (sym (ap (λ (o : WriteOutcome). o.number) e)))
-outcome-fixes (Refused why) (Size n) e = absurd (some_number why (ap (λ (o : WriteOutcome). o.number) e))
-outcome-fixes (Refused why) (Refused other) e = ap Refused (number-fixes why other (ap (λ (o : WriteOutcome). o.number) e))
+pub outcome-fixes : (a b : Result ℕ Refusal) → write_outcome_of a ≡ write_outcome_of b → a ≡ b
+outcome-fixes (Ok m) (Ok n) e = ap Ok (ap (λ (o : WriteOutcome). o.count) e)
+outcome-fixes (Ok m) (Err why) e = absurd (some_number why (sym (ap (λ (o : WriteOutcome). o.number) e)))
+outcome-fixes (Err why) (Ok n) e = absurd (some_number why (ap (λ (o : WriteOutcome). o.number) e))
+outcome-fixes (Err why) (Err other) e = ap Err (number-fixes why other (ap (λ (o : WriteOutcome). o.number) e))
 
 -- the fixed part and then the rest, stored at the front
 

@@ -1,5 +1,5 @@
 -- Kind 2, token. [document 01, Frames; the paper's token: token_seq, seq, aru, aru_id, rtr, and fcc of its flow control; the backlog is document 02's, Job 1]
-use Rattle.std.specs.Prelude.{ℕ, ◌-◌, Bool, not, ◌&&◌, cond, List, ◌++◌, map, length, take, drop, replicate, leb, eqb}
+use Rattle.std.specs.Prelude.{ℕ, ◌-◌, Bool, not, ◌&&◌, cond, List, ◌++◌, map, length, take, drop, replicate, leb, eqb, Option, Some, None}
 use Rattle.words.specs.Word.{word_at, word_bytes}
 use Rattle.words.specs.Run.{words, words_bytes}
 use Rattle.words.specs.Scan.{all_within, all_zero, distinct}
@@ -7,23 +7,21 @@ use Rattle.frames.specs.Number.{most_number, is_number, is_id}
 use Rattle.frames.specs.Layout.{addressee_at, token_number_at, highest_at, aru_at, blocker_at, round_at, backlog_at, count_at, requests_at, token_kind, most_round, most_backlog, most_requests, token_size}
 use Rattle.frames.specs.Header.{header_of, header_follows, header_bytes}
 use Rattle.frames.specs.declared.number.MessageNumber.{MessageNumber}
-use Rattle.frames.specs.declared.token.Blocker.{Blocker}
-use Rattle.frames.specs.declared.token.Blocker.TheVariants.{Nobody, Member}
 use Rattle.frames.specs.declared.token.Token.{Token}
 
 -- ---- the blocker: nobody, written 0, or one member
 
-abbrev pub blocker_of : ℕ → Blocker
-blocker_of id = cond (eqb id 0) Nobody (Member id)
+abbrev pub blocker_of : ℕ → Option ℕ
+blocker_of id = cond (eqb id 0) None (Some id)
 
-abbrev pub blocker_id : Blocker → ℕ
-blocker_id Nobody = 0
-blocker_id (Member id) = id
+abbrev pub blocker_id : Option ℕ → ℕ
+blocker_id None = 0
+blocker_id (Some id) = id
 
 -- nobody exactly when aru equals the highest
-abbrev pub blocker_follows : Blocker → ℕ → ℕ → Bool
-blocker_follows Nobody aru highest = eqb aru highest
-blocker_follows (Member id) aru highest = not (eqb aru highest) && is_id id
+abbrev pub blocker_follows : Option ℕ → ℕ → ℕ → Bool
+blocker_follows None aru highest = eqb aru highest
+blocker_follows (Some id) aru highest = not (eqb aru highest) && is_id id
 
 -- ---- the requests: the first `count` of 16 places, the others zero. A list has any length, so the test asks for the 16 too
 

@@ -1,11 +1,10 @@
 -- Writing a frame into a lent buffer: question 12, then 1 with the frame's own size. [document 01, Questions at the door]
-use Rattle.std.specs.Prelude.{ℕ, Bool, cond, List, ◌++◌, length, drop, leb}
+use Rattle.std.specs.Prelude.{ℕ, Bool, cond, List, ◌++◌, length, drop, leb, Result, Ok, Err}
 use Rattle.frames.specs.Layout.{most_requests}
 use Rattle.frames.specs.Refusal.{frame_refusal_number}
 use Rattle.frames.specs.Message.{message_follows, message_bytes}
 use Rattle.frames.specs.Token.{token_follows, token_bytes}
-use Rattle.frames.specs.declared.writer.Written.{Written}
-use Rattle.frames.specs.declared.writer.Written.TheVariants.{Size, Refused}
+use Rattle.frames.specs.declared.refusal.Refusal.{Refusal}
 use Rattle.frames.specs.declared.message.Message.{Message}
 use Rattle.frames.specs.declared.token.Token.{Token}
 
@@ -14,9 +13,9 @@ pub record WriteOutcome : Type 0 where
   pub number : ℕ
   pub count : ℕ
 
-abbrev pub write_outcome_of : Written → WriteOutcome
-write_outcome_of (Size n) = record { number = 0; count = n }
-write_outcome_of (Refused why) = record { number = frame_refusal_number why; count = 0 }
+abbrev pub write_outcome_of : Result ℕ Refusal → WriteOutcome
+write_outcome_of (Ok n) = record { number = 0; count = n }
+write_outcome_of (Err why) = record { number = frame_refusal_number why; count = 0 }
 
 -- the outcome, and the whole buffer afterwards
 pub record Writing : Type 0 where

@@ -1,6 +1,6 @@
 // Totem frames: the reader and the writer. A logger can use this crate alone. Every public function
 // takes any values and any bytes of any length; `read`, `write_message` and `write_token` answer what
-// is wrong by its number.
+// is wrong as a `Refusal`, which has its number.
 #![tactic(auto)]
 
 mod header;
@@ -19,7 +19,7 @@ pub use layout::{
 };
 pub use message::{Message, content, message_follows};
 pub use number::{MOST_ID, MOST_NUMBER, MessageNumber, RingNumber, TokenNumber, is_id, is_number};
-pub use reader::{Answer, Reading, read};
-pub use refusal::{Refusal, refusal_number};
+pub use reader::{Frame, read};
+pub use refusal::Refusal;
 pub use token::{Blocker, Token, numbered, numbers_in, token_follows};
-pub use writer::{Written, put_message, put_token, write_message, write_token};
+pub use writer::{put_message, put_token, write_message, write_token};

@@ -6,25 +6,27 @@ ghost use Rattle.frames.specs.Layout.{content_at};
 use crate::header::Header;
 use crate::number::MessageNumber;
 use crate::{header, layout, number};
+use words::Word;
 
-#[derive(Clone, Copy)]
+#[derive(Clone, Copy, Debug, PartialEq, Eq, Hash)]
 pub struct Message {
     pub header: Header,
     pub sender: u16,
     pub number: MessageNumber,
-    // 0 agreed, 1 safe.
+    // 0 agreed, 1 safe. A number and no enum: one out of range is read before `message_follows` refuses it.
     pub service: u16,
 }
 
+#[tactic(auto, unfolding(crate::specs::Message::message_of))]
 pub fn message_of(frame: &[u8]) -> Message
     requires { content_at ≤ length frame.now }
     ensures { result ≡ message_of frame.now }
 {
     Message {
         header: header::header_of(frame),
-        sender: words::get_u16(frame, layout::SENDER_AT),
-        number: MessageNumber(words::get_u32(frame, layout::MESSAGE_NUMBER_AT)),
-        service: words::get_u16(frame, layout::SERVICE_AT),
+        sender: u16::get(frame, layout::SENDER_AT),
+        number: MessageNumber(u32::get(frame, layout::MESSAGE_NUMBER_AT)),
+        service: u16::get(frame, layout::SERVICE_AT),
     }
 }
 
@@ -34,13 +36,11 @@ pub fn message_of(frame: &[u8]) -> Message
 pub fn content(frame: &[u8]) -> &[u8]
     ensures { result.now ≡ content_of frame.now }
 {
-    if frame.len() < layout::CONTENT_AT {
-        return &frame[..0];
-    }
-    &frame[layout::CONTENT_AT..]
+    frame.get(layout::CONTENT_AT..).unwrap_or_default()
 }
 
 // Question 12 of a message's values. Ruled out: id 0 taken; content of 65 bytes taken.
+#[tactic(auto, unfolding(crate::specs::Message::message_follows))]
 pub fn message_follows(m: Message, content: &[u8]) -> bool
     ensures { result ≡ message_follows m content.now }
 {

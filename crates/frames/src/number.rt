@@ -2,13 +2,13 @@
 ghost use Rattle.std.specs.Prelude.{◌≡◌};
 ghost use Rattle.frames.specs.Number.{is_number, is_id};
 
-#[derive(Clone, Copy)]
+#[derive(Clone, Copy, Debug, PartialEq, Eq, PartialOrd, Ord, Hash)]
 pub struct RingNumber(pub u32);
 
-#[derive(Clone, Copy)]
+#[derive(Clone, Copy, Debug, PartialEq, Eq, PartialOrd, Ord, Hash)]
 pub struct MessageNumber(pub u32);
 
-#[derive(Clone, Copy)]
+#[derive(Clone, Copy, Debug, PartialEq, Eq, PartialOrd, Ord, Hash)]
 pub struct TokenNumber(pub u32);
 
 pub const MOST_NUMBER: u32 = 2000000000;
@@ -19,12 +19,12 @@ pub const MOST_ID: u16 = 65535;
 pub fn is_number(n: u32) -> bool
     ensures { result ≡ is_number n }
 {
-    (1 <= n) & (n <= MOST_NUMBER)
+    (1..=MOST_NUMBER).contains(&n)
 }
 
 // A member's id. Ruled out: 0 taken; 65,535 refused.
 pub fn is_id(id: u16) -> bool
     ensures { result ≡ is_id id }
 {
-    (1 <= id) & (id <= MOST_ID)
+    (1..=MOST_ID).contains(&id)
 }

@@ -2,8 +2,10 @@
 use Prim.Native.Nat.{ℕ, zero, suc, ◌+◌, ◌-◌, ◌<◌, ◌≤◌}
 use mathlib.Core.Path.{◌≡◌, refl, sym, ◌∙◌}
 use mathlib.Core.Bool.{Bool, true, false, ◌&&◌, and-false, and-true, and_assoc}
-use native.Mathlib.Nat.{add-zero, sub-zero}
+use mathlib.Core.List.{List, [], ◌∷◌, ◌++◌}
+use native.Mathlib.Nat.{add-zero, zero-add, sub-zero}
 use native.Mathlib.Omega.{arith}
+use lib.ListN.{length, length-append}
 use Rattle.frames.proofs.Facts.{part}
 use Rattle.record.specs.Count.{every_from}
 
@@ -61,6 +63,11 @@ module _ (test : ℕ → Bool) (first n : ℕ) (good : Bool) (i : ℕ) (so_far :
   gathered-ends h =
       let e : n - i ≡ 0 = omega arith in
       sym (and-true good) ∙ rw e at so_far.rest
+
+-- of a run from 0 on, by what an iterator has yielded so far
+pub gathered-more : {A : Type 0} (test : ℕ → Bool) (n : ℕ) (good : Bool) (xs : List A) (x : A) (b : Bool)
+    → Gathered test 0 n good (length xs) → length xs < n → b ≡ test (length xs) → Gathered test 0 n (good && b) (length (xs ++ (x ∷ [])))
+gathered-more test n good xs x b so_far h e = rw (length-append xs (x ∷ []), e) (rw zero-add at (gathered-goes test 0 n good (length xs) so_far h))
 
 -- ---- the same of a run from above a number up to another, by the number that is next
 

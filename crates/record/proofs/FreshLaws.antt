@@ -1,13 +1,13 @@
 -- A fresh record: members placed one by one, and that it is whole.
-use Prim.Native.Nat.{ℕ, suc, ◌+◌, ◌-◌, ◌<◌, ◌≤◌}
+use Prim.Native.Nat.{ℕ, ◌-◌, ◌≤◌}
 use mathlib.Core.Path.{◌≡◌, refl, sym, ◌∙◌}
 use mathlib.Core.Bool.{true, false, and-false}
-use mathlib.Core.List.{List}
+use mathlib.Core.List.{List, ◌++◌}
+use Rattle.std.proofs.lemmas.List.{drop-replicate}
 use borrow.Author.Tests.{le-leb, eq-eqb}
-use native.Mathlib.Numerals.{add-one}
 use native.Mathlib.Omega.{arith}
-use lib.ListN.{length, get_or, set, take, drop, replicate, length-append, length-replicate, get_or-replicate}
-use lib.Seq.{take-suc, set_at, append_snoc, take_all, length-take-le, take-append_seam, drop-append_seam}
+use lib.ListN.{length, take, drop, replicate, length-append, length-replicate, get_or-replicate}
+use lib.Seq.{take-append_seam, drop-append_seam}
 use Rattle.words.specs.Scan.{every, all_zero}
 use Rattle.record.specs.Size.{most_members, most_held}
 use Rattle.record.specs.Count.{every_from}
@@ -23,26 +23,11 @@ use Rattle.record.proofs.ListLaws.{most-zeros, all-within}
 use Rattle.record.proofs.RangeLaws.{numbers-below}
 use Rattle.record.proofs.TallyLaws.{undelivered-none}
 
--- ---- a loop that places the members
+-- ---- the members over zeros
 
-pub placed-none : (ids : List ℕ) → replicate most_members 0 ≡ members_placed (take 0 ids)
+pub placed-over : (ids placed : List ℕ) → placed ≡ ids → placed ++ drop (length ids) (replicate most_members 0) ≡ members_placed ids
 unfolding members_placed
-placed-none ids = refl
-
-pub placed-next : (ids : List ℕ) (i : ℕ)
-    → i < length ids
-    → length ids ≤ most_members
-    → set (members_placed (take i ids)) i (get_or ids i 0) ≡ members_placed (take (i + 1) ids)
-unfolding members_placed
-placed-next ids i h room =
-    let here : length (take i ids) ≡ i = length-take-le i ids (omega arith) in
-    let after : length (take (suc i) ids) ≡ suc i = length-take-le (suc i) ids (omega arith) in
-    let left : most_members - i ≡ suc (most_members - suc i) = omega arith in
-    let set_here = set_at (take i ids) 0 (replicate (most_members - suc i) 0) (get_or ids i 0) i here in
-    rw (add-one i, after, here, left, take-suc ids i 0 h, append_snoc, set_here)
-
-pub placed-all : (ids members : List ℕ) (i : ℕ) → members ≡ members_placed (take i ids) → length ids ≤ i → members ≡ members_placed ids
-placed-all ids members i e h = e ∙ rw (take_all i ids h)
+placed-over ids placed e = rw (e, drop-replicate {X = ℕ} (length ids) most_members 0)
 
 -- ---- a fresh record is whole
 

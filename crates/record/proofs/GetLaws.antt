@@ -1,4 +1,5 @@
 -- Parts read field by field, each array into zeros of its own length, are the parts that stand in the bytes.
+use Rattle.std.proofs.lemmas.List.{take_rest}
 use Prim.Native.Nat.{ℕ, ◌+◌, ◌-◌}
 use mathlib.Core.Path.{◌≡◌, refl, ap, ◌∙◌}
 use mathlib.Core.List.{List, [], ◌++◌, append-nil}
@@ -6,7 +7,6 @@ use lib.ListN.{length, take, drop}
 use lib.Seq.{drop-drop}
 use Rattle.words.specs.Word.{word_at}
 use Rattle.words.specs.Run.{words}
-use Rattle.words.proofs.ScanLaws.{to-end}
 use Rattle.frames.specs.Layout.{longest_token}
 use Rattle.record.specs.Size.{most_members, most_held, most_posts, held_contents}
 use Rattle.record.specs.Layout.{own_at, panel_at, log_at, turn_at, posts_at, log_ring_at, member_count_at, members_at, level_at, safe_at, delivered_at, held_messages_at, senders_at, held_services_at, held_lengths_at, held_contents_at, turn_aru_at, earlier_at, turn_number_at, broadcast_at, stall_at, waited_at, token_size_at, token_at, post_count_at, post_services_at, post_lengths_at, post_contents_at}
@@ -71,9 +71,9 @@ pub head_read : (s : List ℕ) (own : ℕ) (log : LogHead) (turn : Turn) (posts 
     → record { own = own; log = log; turn = turn; posts = posts } ≡ record_head (record_of s)
 unfolding record_of
 head_read s own log turn posts e₁ e₂ e₃ e₄ =
-    let log_is : log ≡ head_of (log_of (drop log_at s)) = ap head_of (rw (to-end s log_at) at e₂) in
-    let posts-is : posts ≡ posts_head (posts_of (drop posts_at s)) = ap posts_head (rw (to-end s posts_at) at e₄) in
-    rw (e₁, log_is, rw (to-end s turn_at) at e₃, posts-is)
+    let log_is : log ≡ head_of (log_of (drop log_at s)) = ap head_of (rw (take_rest s log_at) at e₂) in
+    let posts-is : posts ≡ posts_head (posts_of (drop posts_at s)) = ap posts_head (rw (take_rest s posts_at) at e₄) in
+    rw (e₁, log_is, rw (take_rest s turn_at) at e₃, posts-is)
   where
     posts_head : Posts → PostsHead
     posts_head p = record { count = p.count; services = p.services; lengths = p.lengths }

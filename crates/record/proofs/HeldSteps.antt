@@ -1,24 +1,34 @@
--- Letting go, place by place: what is left to clear decides the whole.
+-- Letting go, number by number: what is left to clear decides the whole.
 use Prim.Native.Nat.{ℕ, zero, suc, ◌+◌, ◌-◌, ◌<◌, ◌≤◌}
 use mathlib.Core.Path.{◌≡◌}
-use native.Mathlib.Nat.{add-zero, sub-zero}
+use native.Mathlib.Numerals.{add-one}
 use native.Mathlib.Omega.{arith}
 use Rattle.record.specs.Held.{place_of, cleared, cleared_from}
+use Rattle.record.specs.declared.head.LogHead.{LogHead}
 use Rattle.record.specs.declared.log.Held.{Held}
 
-pub cleared-none : (h : Held) (first n : ℕ) → cleared_from h (first + 0) (n - 0) ≡ cleared_from h first n
-cleared-none h first n = rw (add-zero, sub-zero)
+pub clear-starts : (h : Held) (safe last : ℕ) → cleared_from h (safe + 1) (last + 1 - (safe + 1)) ≡ cleared_from h (suc safe) (last - safe)
+clear-starts h safe last =
+    let many : last + 1 - (safe + 1) ≡ last - safe = omega arith in
+    rw (many, add-one safe)
 
-module _ (h : Held) (first n i : ℕ) where
-  pub cleared_more : i < n → cleared_from h (first + i) (n - i) ≡ cleared_from (cleared h (place_of (first + i))) (first + (i + 1)) (n - (i + 1))
+module _ (h : Held) (n last : ℕ) where
+  pub clear-goes : n < last + 1 → cleared_from h n (last + 1 - n) ≡ cleared_from (cleared h (place_of n)) (n + 1) (last + 1 - (n + 1))
   unfolding cleared_from
-  cleared_more more =
-      let left : n - i ≡ suc (n - (i + 1)) = omega arith in
-      let next : suc (first + i) ≡ first + (i + 1) = omega arith in
-      rw (left, ← next)
+  clear-goes more =
+      let left : last + 1 - n ≡ suc (last + 1 - (n + 1)) = omega arith in
+      rw (left, add-one n)
 
-  pub cleared-all : n ≤ i → cleared_from h (first + i) (n - i) ≡ h
+  pub clear-ends : last + 1 ≤ n → cleared_from h n (last + 1 - n) ≡ h
   unfolding cleared_from
-  cleared-all done =
-      let left : n - i ≡ zero = omega arith in
+  clear-ends done =
+      let left : last + 1 - n ≡ zero = omega arith in
       rw left
+
+-- no field but those of the places is changed
+pub record SameRing (l log : LogHead) : Type 0 where
+  pub ring : log.ring ≡ l.ring
+  pub count : log.count ≡ l.count
+  pub members : log.members ≡ l.members
+  pub level : log.level ≡ l.level
+  pub delivered : log.delivered ≡ l.delivered

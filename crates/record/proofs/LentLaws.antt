@@ -1,19 +1,17 @@
 -- A record lent as bytes.
-use Prim.Native.Nat.{ℕ, ◌+◌, ◌-◌}
+use Prim.Native.Nat.{ℕ}
 use mathlib.Core.Path.{◌≡◌, refl, sym, ap, ◌∙◌}
 use mathlib.Core.Bool.{Bool, true, false, and-false}
 use mathlib.Core.List.{List}
 use borrow.Author.Tests.{eq-eqb, ne_eqb}
-use native.Mathlib.Omega.{arith}
-use lib.ListN.{length, take, drop}
+use lib.ListN.{length}
 use Rattle.words.specs.Word.{word_at}
 use Rattle.words.specs.Scan.{every}
 use Rattle.record.specs.Count.{numbers_after, those}
 use Rattle.record.specs.Held.{holds, held_numbers}
 use Rattle.record.specs.Members.{foundable}
-use Rattle.record.specs.Size.{post_contents}
-use Rattle.record.specs.Layout.{record_size, panel_at, log_at, posts_at, post_contents_at}
-use Rattle.record.specs.inner.Head.{log_on, record_on, record_in, record_head, contents_in}
+use Rattle.record.specs.Layout.{record_size, panel_at, log_at}
+use Rattle.record.specs.inner.Head.{log_on, record_in, record_head, contents_in}
 use Rattle.record.specs.declared.head.Head.{Head}
 use Rattle.record.specs.Fresh.{fresh_held, members_placed, fresh_log, fresh}
 use Rattle.record.specs.Whole.{held_in_range, numbers_in_range, log_in_range, senders_are_members, log_whole, panel_right, parts_whole, whole}
@@ -56,13 +54,12 @@ module _ (s : List ℕ) (h : Head) (long : length s ≡ record_size) (e : h ≡ 
   pub whole-there : (count : ℕ) (b : Bool)
       → ((contents : List ℕ) → count ≡ undelivered (log_on h.log contents))
       → shown ≡ count
-      → b ≡ parts_whole (record_on h (contents_in s log_at) (take (length s - (posts_at + post_contents_at)) (drop (posts_at + post_contents_at) s)))
+      → b ≡ parts_whole (record_in h s)
       → b ≡ bytes_whole s
   unfolding whole panel_right parts_whole
   whole-there count b counts same f =
-      let left : length s - (posts_at + post_contents_at) ≡ post_contents = omega (arith, long) in
       let is : (record_of s).panel ≡ undelivered (record_of s).log = sym panel-there ∙ same ∙ counts (contents_in s log_at) ∙ ap undelivered log-there in
-      rw (lent_of s long, eq-eqb (record_of s).panel (undelivered (record_of s).log) is) (rw (left, e, lent_of s long, contents-there s, waiting-there s) at f)
+      rw (lent_of s long, eq-eqb (record_of s).panel (undelivered (record_of s).log) is) (rw (e, lent_of s long, contents-there s, waiting-there s) at f)
 
 no-parts-whole : parts_whole no_record ≡ false
 unfolding every numbers_after those holds held_numbers foundable fresh_held members_placed fresh_log fresh held_in_range numbers_in_range log_in_range senders_are_members log_whole parts_whole

@@ -29,5 +29,5 @@ pub mod Fits
 pub mod RoundTrip
 pub mod LentLaws
 pub mod PostLent
-pub mod MoveLaws
 pub mod PartLaws
+mod ZipLaws

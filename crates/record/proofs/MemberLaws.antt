@@ -1,34 +1,21 @@
 -- Members, founding questions, and the token that may be resent.
 use Prim.Native.Nat.{ℕ, ◌-◌, ◌≤◌}
 use mathlib.Core.Path.{◌≡◌, refl}
-use mathlib.Core.Bool.{Bool, true, false, false≢true, and-false, ◌&&◌}
+use mathlib.Core.Bool.{Bool, true, false, not, false≢true, and-false, ◌&&◌, ◌||◌}
+use Rattle.std.specs.List.{list_any}
 use mathlib.Core.List.{List, [], ◌∷◌}
 use borrow.Author.Tests.{leb-true, eqb-true, eq-eqb, ne_eqb}
 use native.Mathlib.Nat.{sub-zero}
-use native.Mathlib.Omega.{arith}
 use lib.ListN.{length, take}
 use lib.Dec.{leb, eqb}
 use Rattle.words.specs.Scan.{every, all_within}
 use Rattle.frames.specs.Number.{most_id}
-use Rattle.frames.specs.Read.{read_of}
-use Rattle.frames.specs.declared.reader.Reading.{Reading}
 use Rattle.frames.proofs.Facts.{part}
 use Rattle.record.specs.Size.{least_members, most_members}
-use Rattle.record.specs.Members.{is_member, representative, ids_follow, foundable}
-use Rattle.record.specs.Ring.{this_ring, token_members, is_token, token_passes}
+use Rattle.record.specs.Members.{is_member, ids_follow, foundable}
+use Rattle.record.specs.Ring.{token_passes}
 use Rattle.record.specs.Whole.{resend_passes}
 use Rattle.record.specs.declared.turn.Turn.{Turn}
-
--- ---- no ids
-
-pub ids-none : (ids : List ℕ) → length ids ≡ 0 → true ≡ ids_follow ids
-unfolding ids_follow every
-ids-none [] e = refl
-ids-none (x ∷ ids) e = absurd (omega (arith, e))
-
-pub representative-none : (ids : List ℕ) → length ids ≡ 0 → 0 ≡ representative ids
-representative-none [] e = refl
-representative-none (x ∷ ids) e = absurd (omega (arith, e))
 
 -- ---- what the founding questions tell
 
@@ -70,15 +57,6 @@ own-most ids own f =
 
 -- ---- a token that may be resent
 
-pub passes-joined : (ring : ℕ) (members frame : List ℕ) (reading : Reading) (kind this known : Bool)
-    → reading ≡ read_of frame
-    → kind ≡ is_token reading.answer
-    → this ≡ this_ring ring members reading.token.header
-    → known ≡ token_members members reading.token
-    → kind && this && known ≡ token_passes ring members frame
-unfolding token_passes
-passes-joined ring members frame reading kind this known read e₁ e₂ e₃ = rw (e₁, e₂, e₃, read)
-
 module _ (ring : ℕ) (members : List ℕ) (t : Turn) where
   pub leave_none : t.size ≡ 0 → true ≡ resend_passes ring members t
   unfolding resend_passes
@@ -91,3 +69,13 @@ module _ (ring : ℕ) (members : List ℕ) (t : Turn) where
       → passes ≡ resend_passes ring members t
   unfolding resend_passes
   leave-some passes some e = simp (ne_eqb _ _ some) (rw sub-zero at e)
+
+-- as a search finds it
+or-not : (a b c : Bool) → b ≡ not c → (a || b) ≡ not (not a && c)
+or-not true b c e = refl
+or-not false b c e = e
+
+pub member-any : (ids : List ℕ) (id : ℕ) → list_any (λ y. eqb y id) ids ≡ is_member ids id
+unfolding every
+member-any [] id = refl
+member-any (x ∷ ids) id = or-not (eqb x id) _ _ (member-any ids id)

@@ -3,11 +3,11 @@ use Prim.Native.Nat.{ℕ, ◌+◌, ◌-◌, ◌<◌, ◌≤◌, min}
 use mathlib.Core.Path.{◌≡◌, refl, ◌∙◌}
 use mathlib.Core.Bool.{Bool, true, false, ◌&&◌, and-false}
 use mathlib.Core.List.{List, ◌++◌}
-use borrow.Author.Tests.{le-leb, leb-true, eqb-true, eq-eqb}
+use borrow.Author.Tests.{le-leb, leb-true, eqb-true}
 use native.Mathlib.Nat.{zero-add}
 use native.Mathlib.Decide.{dec_lt}
 use native.Mathlib.Omega.{arith}
-use lib.ListN.{length, get_or, take, drop, replicate, drop_of_length-le, get_or-eq_default}
+use lib.ListN.{length, get_or, take, drop, replicate, length-take, drop_of_length-le, get_or-eq_default}
 use lib.Dec.{leb, eqb}
 use lib.Seq.{get_or-take, get_or-drop}
 use Rattle.words.specs.Scan.{every, all_zero}
@@ -24,76 +24,59 @@ pub past_all : (s : List ℕ) (n : ℕ) → length s ≡ most_content → most_c
 unfolding every
 past_all s n long h = rw (drop_of_length-le s {i = n} (omega (arith, long)))
 
--- ---- a piece or more is past it: the byte of each of four pieces, the last at 48
+-- ---- a piece or more is past it: four pieces, the last at 48
 
-abbrev zero_at : List ℕ → ℕ → Bool
-zero_at s i = eqb (get_or s i 0) 0
+abbrev pub piece_at : List ℕ → ℕ → List ℕ
+piece_at s at = take 16 (drop at s)
 
-abbrev pub zero_in_four : List ℕ → ℕ → ℕ → ℕ → ℕ → Bool
-zero_in_four s first second third i = ((zero_at s (first + i) && zero_at s (second + i)) && zero_at s (third + i)) && zero_at s (48 + i)
+module _ (s : List ℕ) (at : ℕ) where
+  in-piece : all_zero (piece_at s at) ≡ true → (j : ℕ) → at ≤ j → j < at + 16 → get_or s j 0 ≡ 0
+  in-piece e j low high =
+      let here : at + (j - at) ≡ j = omega arith in
+      let none : get_or s (at + (j - at)) 0 ≤ 0 = rw (get_or-take 16 (drop at s) (j - at) 0 (omega arith), get_or-drop) at (within-most 0 0 (piece_at s at) e (j - at)) in
+      omega (arith, rw here at none)
 
-module _ (s : List ℕ) (first second third i : ℕ) where
-  in-all-four : zero_at s (first + i) ≡ true → zero_at s (second + i) ≡ true → zero_at s (third + i) ≡ true → zero_at s (48 + i) ≡ true → zero_in_four s first second third i ≡ true
-  in-all-four a b c d = rw (a, b, c, d)
-
-  module _ (e : zero_in_four s first second third i ≡ true) where
-    in-first : zero_at s (first + i) ≡ true
-    in-first = part e (λ (f : zero_at s (first + i) ≡ false). rw f)
-
-    in-second : zero_at s (second + i) ≡ true
-    in-second = part e (λ (f : zero_at s (second + i) ≡ false). simp (f, and-false))
-
-    in-third : zero_at s (third + i) ≡ true
-    in-third = part e (λ (f : zero_at s (third + i) ≡ false). simp (f, and-false))
-
-    in-last : zero_at s (48 + i) ≡ true
-    in-last = part e (λ (f : zero_at s (48 + i) ≡ false). simp (f, and-false))
+  piece-zero : ((j : ℕ) → at ≤ j → get_or s j 0 ≡ 0) → all_zero (piece_at s at) ≡ true
+  piece-zero zero = all-within 0 (piece_at s at) (λ i.
+      elim (dec_lt i 16) [
+        | yes h ↦ rw (get_or-take 16 (drop at s) i 0 h, get_or-drop at s i 0) (omega (arith, zero (at + i) (omega arith)))
+        | no h ↦ omega (arith, get_or-eq_default (piece_at s at) 0 {n = i} (omega (arith, length-take {A = ℕ} 16 (drop at s))))
+      ])
 
 module _ (s : List ℕ) (first second third : ℕ) (long : length s ≡ most_content) (near : first ≤ 48) (next : second ≡ min (first + 16) 48) (after : third ≡ min (first + 32) 48) where
-  abbrev test : ℕ → Bool
-  test = zero_in_four s first second third
+  abbrev four : Bool
+  four = ((all_zero (piece_at s first) && all_zero (piece_at s second)) && all_zero (piece_at s third)) && all_zero (piece_at s 48)
 
-  pub padded-by-pieces : (r : Bool) → r ≡ every_from (zero_in_four s first second third) 0 16 → r ≡ all_zero (drop first s)
-  padded-by-pieces r e = e ∙ both_ways _ _ there back
+  pub padded-by-pieces : (((all_zero (piece_at s first) && all_zero (piece_at s second)) && all_zero (piece_at s third)) && all_zero (piece_at s 48)) ≡ all_zero (drop first s)
+  padded-by-pieces = both_ways _ _ there back
     where
-      there : every_from test 0 16 ≡ true → all_zero (drop first s) ≡ true
-      there all = all-within 0 (drop first s) (λ i. rw (get_or-drop first s i 0) (omega (arith, zero i)))
+      there : four ≡ true → all_zero (drop first s) ≡ true
+      there all = all-within 0 (drop first s) (λ i. rw (get_or-drop first s i 0) (omega (arith, zero (first + i) (omega arith))))
         where
-          tested : (i : ℕ) → i < 16 → test i ≡ true
-          tested i h = rw zero-add at (each-passes test 0 16 all i h)
-
-          zero : (i : ℕ) → get_or s (first + i) 0 ≡ 0
-          zero i =
-              elim (dec_lt (first + i) most_content) [
-                | no h ↦ get_or-eq_default s 0 {n = first + i} (omega (arith, long))
-                | yes h ↦ elim (dec_lt (first + i) 48) [
-                  | no past ↦
-                      let at : 48 + (first + i - 48) ≡ first + i = omega arith in
-                      rw at at (eqb-true (get_or s (48 + (first + i - 48)) 0) 0 (in-last s first second third (first + i - 48) (tested (first + i - 48) (omega arith))))
-                  | yes before ↦ elim (dec_lt i 16) [
-                    | yes one ↦ eqb-true (get_or s (first + i) 0) 0 (in-first s first second third i (tested i one))
-                    | no two ↦ elim (dec_lt i 32) [
-                      | yes one ↦
-                          let at : second + (i - 16) ≡ first + i = omega (arith, next) in
-                          rw at at (eqb-true (get_or s (second + (i - 16)) 0) 0 (in-second s first second third (i - 16) (tested (i - 16) (omega arith))))
-                      | no three ↦
-                          let at : third + (i - 32) ≡ first + i = omega (arith, after) in
-                          rw at at (eqb-true (get_or s (third + (i - 32)) 0) 0 (in-third s first second third (i - 32) (tested (i - 32) (omega arith))))
+          zero : (j : ℕ) → first ≤ j → get_or s j 0 ≡ 0
+          zero j low =
+              elim (dec_lt j most_content) [
+                | no h ↦ get_or-eq_default s 0 {n = j} (omega (arith, long))
+                | yes h ↦ elim (dec_lt j 48) [
+                  | no past ↦ in-piece s 48 (part all (λ (f : all_zero (piece_at s 48) ≡ false). simp (f, and-false))) j (omega arith) (omega arith)
+                  | yes before ↦ elim (dec_lt j (first + 16)) [
+                    | yes one ↦ in-piece s first (part all (λ (f : all_zero (piece_at s first) ≡ false). rw f)) j low one
+                    | no two ↦ elim (dec_lt j (first + 32)) [
+                      | yes one ↦ in-piece s second (part all (λ (f : all_zero (piece_at s second) ≡ false). simp (f, and-false))) j (omega (arith, next)) (omega (arith, next))
+                      | no three ↦ in-piece s third (part all (λ (f : all_zero (piece_at s third) ≡ false). simp (f, and-false))) j (omega (arith, after)) (omega (arith, after))
                     ]
                   ]
                 ]
               ]
 
-      back : all_zero (drop first s) ≡ true → every_from test 0 16 ≡ true
-      back zeros = all-pass test 0 16 (λ i i<.
-          rw zero-add
-          (in-all-four s first second third i (zero (first + i) (omega arith)) (zero (second + i) (omega (arith, next))) (zero (third + i) (omega (arith, after))) (zero (48 + i) (omega arith))))
+      back : all_zero (drop first s) ≡ true → four ≡ true
+      back zeros = rw (piece-zero s first zero, piece-zero s second (λ j h. zero j (omega (arith, next))), piece-zero s third (λ j h. zero j (omega (arith, after))), piece-zero s 48 (λ j h. zero j (omega arith)))
         where
-          zero : (j : ℕ) → first ≤ j → zero_at s j ≡ true
+          zero : (j : ℕ) → first ≤ j → get_or s j 0 ≡ 0
           zero j h =
               let at : first + (j - first) ≡ j = omega arith in
               let none : get_or s (first + (j - first)) 0 ≤ 0 = rw get_or-drop at (within-most 0 0 (drop first s) zeros (j - first)) in
-              eq-eqb (get_or s j 0) 0 (omega (arith, rw at at none))
+              omega (arith, rw at at none)
 
 -- ---- less than a piece is past it: limits for the last
 
@@ -120,16 +103,16 @@ module _ (s : List ℕ) (n : ℕ) (long : length s ≡ most_content) (bytes : (i
   limit-at i h = get_or-take (from + 16 - from) (drop from limits) i 0 (omega arith) ∙ get_or-drop from limits i 0
 
   abbrev last : List ℕ
-  last = take (length s - 48) (drop 48 s)
+  last = take 16 (drop 48 s)
 
   last-at : (i : ℕ) → i < 16 → get_or last i 0 ≡ get_or s (48 + i) 0
-  last-at i h = get_or-take (length s - 48) (drop 48 s) i 0 (omega (arith, long)) ∙ get_or-drop 48 s i 0
+  last-at i h = get_or-take 16 (drop 48 s) i 0 h ∙ get_or-drop 48 s i 0
 
   abbrev limited : ℕ → Bool
   limited i = leb (get_or last i 0) (get_or chosen i 0)
 
   pub padded-by-limits : (r : Bool)
-      → r ≡ every_from (λ i. leb (get_or (take (length s - 48) (drop 48 s)) i 0) (get_or (take (most_content - n + 16 - (most_content - n)) (drop (most_content - n) limits)) i 0)) 0 16
+      → r ≡ every_from (λ i. leb (get_or (take 16 (drop 48 s)) i 0) (get_or (take (most_content - n + 16 - (most_content - n)) (drop (most_content - n) limits)) i 0)) 0 16
       → r ≡ all_zero (drop n s)
   padded-by-limits r e = e ∙ both_ways _ _ there back
     where

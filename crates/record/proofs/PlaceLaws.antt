@@ -1,5 +1,5 @@
 -- Numbers that may be held and places: each number has one place, and each place one such number.
-use Prim.Native.Nat.{ℕ, suc, ◌+◌, ◌-◌, ◌%◌, ◌<◌, ◌≤◌}
+use Prim.Native.Nat.{ℕ, suc, ◌+◌, ◌-◌, ◌<◌, ◌≤◌}
 use mathlib.Core.Path.{◌≡◌, refl, sym, ◌∙◌}
 use mathlib.Core.Bool.{Bool, true, false, not, ◌||◌, false≢true}
 use mathlib.Core.List.{List}
@@ -10,6 +10,7 @@ use native.Mathlib.Omega.{arith}
 use lib.ListN.{get_or}
 use lib.Dec.{leb, ltb, eqb}
 use Rattle.record.specs.Size.{most_held}
+pub use Rattle.record.specs.inner.Places.{before_in}
 use Rattle.record.specs.Count.{every_from}
 use Rattle.record.specs.Held.{place_of, holds}
 use Rattle.record.specs.Whole.{held_to_level}
@@ -20,10 +21,6 @@ pub both_ways : (a b : Bool) → (a ≡ true → b ≡ true) → (b ≡ true →
 both_ways true b there back = sym (there refl)
 both_ways false true there back = back refl
 both_ways false false there back = refl
-
--- how many numbers above the safe mark come before the one in place i
-abbrev pub before_in : ℕ → ℕ → ℕ
-before_in safe i = (i + most_held - 1 - safe % most_held) % most_held
 
 -- a question of every number above the safe mark that may be held, asked of the places
 pub by_place : (safe : ℕ) (asked question : ℕ → Bool)

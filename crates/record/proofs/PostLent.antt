@@ -1,4 +1,5 @@
 -- A post in the record's bytes: only those of the posts change.
+use Rattle.std.proofs.lemmas.List.{take_rest}
 use Prim.Native.Nat.{ℕ, ◌+◌, ◌-◌}
 use mathlib.Core.Path.{◌≡◌, sym, ap, ◌∙◌}
 use mathlib.Core.List.{List, [], ◌++◌, append-nil}
@@ -6,7 +7,6 @@ use native.Mathlib.Omega.{arith}
 use lib.ListN.{length, take, drop, length-append, length-drop, drop_of_length-le, take-append-drop}
 use lib.Seq.{sets, sets-eq, length-take-le, take_all, take-append-le, drop_at, drop-drop}
 use Rattle.words.specs.Word.{Bytes}
-use Rattle.words.proofs.ScanLaws.{to-end}
 use Rattle.record.specs.Size.{post_contents}
 use Rattle.record.specs.Layout.{posts_at, post_contents_at, posts_size, record_size}
 use Rattle.record.specs.Bytes.{posts_of, posts_bytes, record_of, record_bytes}
@@ -27,7 +27,7 @@ pub posts-there : (s : List ℕ) (p : PostsHead)
 unfolding record_of
 posts-there s p size e =
     let left : length s - (posts_at + post_contents_at) ≡ post_contents = omega (arith, size) in
-    rw left (rw (to-end s posts_at, drop-drop (0 + post_contents_at) posts_at s) at e)
+    rw left (rw (take_rest s posts_at, drop-drop (0 + post_contents_at) posts_at s) at e)
 
 pub post-put : (s w s₂ : List ℕ) (before after : PostsHead) (service : ℕ) (content : List ℕ)
     → Bytes s

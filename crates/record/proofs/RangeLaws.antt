@@ -1,11 +1,12 @@
 -- Fields in range: what the types alone tell, and what the code tests.
 use Prim.Native.Nat.{ℕ, suc, ◌+◌, ◌≤◌}
 use mathlib.Core.Path.{◌≡◌, sym, ◌∙◌}
-use mathlib.Core.Bool.{Bool, true, false, not, ◌&&◌, ◌||◌, and-true, and-false}
-use borrow.Author.Tests.{eq-eqb, le-leb}
+use mathlib.Core.Bool.{Bool, true, false, not, ◌&&◌, ◌||◌, and-true, and-false, or-true, not-not}
+use borrow.Author.Tests.{eq-eqb, le-leb, lt-leb, lt-ltb, le-ltb}
+use native.Mathlib.Decide.{dec_lt}
 use native.Mathlib.Omega.{arith}
 use lib.ListN.{length, get_or}
-use lib.Dec.{leb}
+use lib.Dec.{leb, ltb, eqb}
 use Rattle.words.specs.Scan.{all_within}
 use Rattle.frames.specs.Number.{most_number, most_id}
 use Rattle.frames.specs.Layout.{most_service, most_content, longest_token}
@@ -45,6 +46,17 @@ held-tested h e1 e2 e3 e4 p a b ea eb =
 pub numbers-tested : (l : Log) (good : Bool) → good ≡ every_from (λ n. leb n most_number || not (in_use l.held (place_of n))) (suc l.safe.0) most_held → good ≡ numbers_in_range l
 unfolding numbers_in_range
 numbers-tested l good e = e ∙ sym (places-within l most_number)
+
+-- one number, as the loop asks: is it too large, and its place in use?
+pub place-tested : (n most x : ℕ) (bad : Bool) → (ltb most n && not (eqb x 0)) ≡ bad → (leb n most || not (not (eqb x 0))) ≡ not bad
+place-tested n most x bad e = rw (← e, not-not) (by (eqb x 0))
+  where
+    by : (free : Bool) → (leb n most || free) ≡ not (ltb most n && not free)
+    by true = rw (or-true, and-false)
+    by false = elim (dec_lt most n) [
+      | yes h ↦ rw (lt-ltb most n h, lt-leb n most h)
+      | no h ↦ rw (le-leb n most (omega arith), le-ltb most n (omega arith))
+    ]
 
 -- 32 numbers above the safe mark: none of them is too large
 pub numbers-below : (l : Log) → l.safe.0 + most_held ≤ most_number → true ≡ numbers_in_range l

@@ -7,6 +7,7 @@ use native.Mathlib.Nat.{add-zero, zero-add, sub-zero}
 use native.Mathlib.Omega.{arith}
 use lib.ListN.{length, get_or}
 use lib.Dec.{leb, ltb, eqb}
+use Rattle.std.specs.Int.{from_bool}
 use Rattle.record.specs.Size.{most_held}
 use Rattle.record.specs.Count.{numbers_after, those}
 use Rattle.record.specs.Held.{place_of, holds, held_numbers}
@@ -17,7 +18,7 @@ use Rattle.record.proofs.PlaceLaws.{before_in, before-place, past-mark, held-in-
 -- of n numbers from `first` on, so many pass
 unfoldable pub tally : (ℕ → Bool) → ℕ → ℕ → ℕ
 tally test first zero = 0
-tally test first (suc n) = cond (test first) 1 0 + tally test (suc first) n
+tally test first (suc n) = from_bool (test first) + tally test (suc first) n
 
 -- ---- a loop that counts
 
@@ -29,11 +30,11 @@ pub record Tallied (test : ℕ → Bool) (first n count i : ℕ) : Type 0 where
 pub tally-starts : (test : ℕ → Bool) (first n : ℕ) → Tallied test first n 0 0
 tally-starts test first n = record { within = omega arith; few = omega arith; rest = rw (zero-add, add-zero first, sub-zero n) refl }
 
-pub one-most : (b : Bool) → cond b 1 0 ≤ 1
+pub one-most : (b : Bool) → from_bool b ≤ 1
 one-most true = omega arith
 one-most false = omega arith
 
-tally-next : (test : ℕ → Bool) (first n i : ℕ) → i < n → tally test (first + i) (n - i) ≡ cond (test (first + i)) 1 0 + tally test (first + (i + 1)) (n - (i + 1))
+tally-next : (test : ℕ → Bool) (first n i : ℕ) → i < n → tally test (first + i) (n - i) ≡ from_bool (test (first + i)) + tally test (first + (i + 1)) (n - (i + 1))
 unfolding tally
 tally-next test first n i h =
     let e : n - i ≡ suc (n - (i + 1)) = omega arith in
@@ -41,7 +42,7 @@ tally-next test first n i h =
     rw (e, s)
 
 module _ (test : ℕ → Bool) (first n count i : ℕ) (so_far : Tallied test first n count i) where
-  pub tally-goes : i < n → Tallied test first n (count + cond (test (first + i)) 1 0) (i + 1)
+  pub tally-goes : i < n → Tallied test first n (count + from_bool (test (first + i))) (i + 1)
   tally-goes h =
       record {
         within = omega arith;
@@ -118,7 +119,7 @@ tally-those test other last (suc n) = go (test (suc last)) (other (suc last)) re
     go : (a b : Bool) → test (suc last) ≡ a → other (suc last) ≡ b
         → length (those other (those test (numbers_after (suc last) n))) ≡ tally (λ x. test x && other x) (suc (suc last)) n
         → length (those other (cond (test (suc last)) (suc last ∷ those test (numbers_after (suc last) n)) (those test (numbers_after (suc last) n))))
-        ≡ cond (test (suc last) && other (suc last)) 1 0 + tally (λ x. test x && other x) (suc (suc last)) n
+        ≡ from_bool (test (suc last) && other (suc last)) + tally (λ x. test x && other x) (suc (suc last)) n
     go true true e f rest = rw (e, f) (omega (arith, rest))
     go true false e f rest = rw (e, f) (omega (arith, rest))
     go false b e f rest = rw e (omega (arith, rest))

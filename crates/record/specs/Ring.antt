@@ -1,12 +1,11 @@
 -- Is it this ring's, and are they its members? [document 01, Questions at the door, 13 and 14]
-use Rattle.std.specs.Prelude.{ℕ, Bool, true, false, ◌&&◌, List, take, eqb}
+use Rattle.std.specs.Prelude.{ℕ, Bool, true, false, ◌&&◌, List, take, eqb, Option, Some, None, Result, Ok, Err}
 use Rattle.frames.specs.Read.{read_of}
 use Rattle.frames.specs.declared.header.Header.{Header}
-use Rattle.frames.specs.declared.token.Blocker.{Blocker}
-use Rattle.frames.specs.declared.token.Blocker.TheVariants.{Nobody, Member}
 use Rattle.frames.specs.declared.token.Token.{Token}
-use Rattle.frames.specs.declared.reader.Answer.{Answer}
-use Rattle.frames.specs.declared.reader.Answer.TheVariants.{Refused, IsMessage, IsToken}
+use Rattle.frames.specs.declared.refusal.Refusal.{Refusal}
+use Rattle.frames.specs.declared.reader.Frame.{Frame}
+use Rattle.frames.specs.declared.reader.Frame.TheVariants.{Message as IsMessage, Token as IsToken}
 use Rattle.record.specs.Members.{is_member, representative}
 use Rattle.record.specs.declared.log.Log.{Log}
 use Rattle.record.specs.declared.Record.{Record}
@@ -24,21 +23,19 @@ unfoldable pub this_ring : ℕ → List ℕ → Header → Bool
 this_ring ring members h = eqb h.ring.0 ring && eqb h.representative (representative members)
 
 -- 14. Is every id in it a member's (nobody excepted)? Of a token: the addressee and the blocker
-abbrev pub blocker_member : List ℕ → Blocker → Bool
-blocker_member members Nobody = true
-blocker_member members (Member id) = is_member members id
+abbrev pub blocker_member : List ℕ → Option ℕ → Bool
+blocker_member members None = true
+blocker_member members (Some id) = is_member members id
 
 unfoldable pub token_members : List ℕ → Token → Bool
 token_members members t = is_member members t.addressee && blocker_member members t.blocker
 
-abbrev pub is_token : Answer → Bool
-is_token (Refused why) = false
-is_token (IsMessage m) = false
-is_token IsToken = true
+-- what was read is a token, and passes 13 and 14
+abbrev pub reading_passes : ℕ → List ℕ → Result Frame Refusal → Bool
+reading_passes ring members (Err why) = false
+reading_passes ring members (Ok (IsMessage m)) = false
+reading_passes ring members (Ok (IsToken t)) = this_ring ring members t.header && token_members members t
 
 -- of kind 2, and passes 10 to 14
 unfoldable pub token_passes : ℕ → List ℕ → List ℕ → Bool
-token_passes ring members frame =
-    is_token (read_of frame).answer
-    && this_ring ring members (read_of frame).token.header
-    && token_members members (read_of frame).token
+token_passes ring members frame = reading_passes ring members (read_of frame)

@@ -14,6 +14,7 @@ use crate::head::Head;
 use crate::turn::Turn;
 use crate::{Record, fresh, head, layout, log_bytes, panel, posts, posts_bytes, size, turn_bytes};
 use frames::RingNumber;
+use words::Word;
 
 // The head of the record in the first RECORD_SIZE bytes. Ruled out: two marks swapped; a field one byte off.
 pub fn get_head(s: &[u8]) -> Head
@@ -21,7 +22,7 @@ pub fn get_head(s: &[u8]) -> Head
     ensures { result ≡ record_head (record_of s.now) }
 {
     Head {
-        own: words::get_u16(s, layout::OWN_AT),
+        own: u16::get(s, layout::OWN_AT),
         log: log_bytes::get_log_head(&s[layout::LOG_AT..]),
         turn: turn_bytes::get_turn(&s[layout::TURN_AT..]),
         posts: posts_bytes::get_posts_head(&s[layout::POSTS_AT..]),
@@ -35,8 +36,8 @@ fn put_showing(out: &mut [u8], panel: u8, h: Head)
         ≡ record_bytes (record_showing panel h (contents_in out.old log_at) (waiting_in out.old posts_at))
         ++ drop record_size out.old }
 {
-    words::put_u16(out, layout::OWN_AT, h.own);
-    words::put_u8(out, layout::PANEL_AT, panel);
+    u16::put(out, layout::OWN_AT, h.own);
+    u8::put(out, layout::PANEL_AT, panel);
     log_bytes::put_log_head(out, layout::LOG_AT, h.log);
     turn_bytes::put_turn(out, layout::TURN_AT, h.turn);
     posts_bytes::put_posts_head(out, layout::POSTS_AT, h.posts);
@@ -56,10 +57,10 @@ pub fn decode(s: &[u8]) -> Record
     ensures { result ≡ record_of s.now }
 {
     let mut contents = [0u8; size::HELD_CONTENTS];
-    words::get_bytes(s, layout::CONTENTS_AT, size::HELD_CONTENTS, &mut contents);
+    words::get_slice(s, layout::CONTENTS_AT, size::HELD_CONTENTS, &mut contents);
     let mut waiting = [0u8; size::POST_CONTENTS];
-    words::get_bytes(s, layout::WAITING_AT, size::POST_CONTENTS, &mut waiting);
-    let panel = words::get_u8(s, layout::PANEL_AT);
+    words::get_slice(s, layout::WAITING_AT, size::POST_CONTENTS, &mut waiting);
+    let panel = u8::get(s, layout::PANEL_AT);
     head::record_showing(panel, get_head(s), contents, waiting)
 }
 
@@ -70,9 +71,9 @@ pub fn encode(r: Record, out: &mut [u8])
 {
     let contents = r.log.held.contents;
     let waiting = r.posts.contents;
-    words::put_bytes(out, layout::CONTENTS_AT, &contents);
-    words::put_bytes(out, layout::WAITING_AT, &waiting);
-    put_showing(out, r.panel, head::head_of(r));
+    words::put_slice(out, layout::CONTENTS_AT, &contents);
+    words::put_slice(out, layout::WAITING_AT, &waiting);
+    put_showing(out, r.panel, Head::from(r));
 }
 
 // A fresh record, to the first RECORD_SIZE bytes. Ruled out: a content that stood there before; a byte past
@@ -82,8 +83,8 @@ pub fn put_fresh(out: &mut [u8], ids: &[u16], own: u16, ring: RingNumber)
     ensures { out.new
         ≡ record_bytes (fresh ids.now own ring.0) ++ drop record_size out.old }
 {
-    words::put_bytes(out, layout::CONTENTS_AT, &[0u8; size::HELD_CONTENTS]);
-    words::put_bytes(out, layout::WAITING_AT, &[0u8; size::POST_CONTENTS]);
+    words::put_slice(out, layout::CONTENTS_AT, &[0u8; size::HELD_CONTENTS]);
+    words::put_slice(out, layout::WAITING_AT, &[0u8; size::POST_CONTENTS]);
     put_showing(out, 0, fresh::fresh_head(ids, own, ring));
 }
 
@@ -100,7 +101,7 @@ pub fn post_count(s: &[u8]) -> u8
     requires { record_size ≤ length s.now }
     ensures { result ≡ (record_of s.now).posts.count }
 {
-    words::get_u8(s, layout::POSTS_AT + layout::POST_COUNT_AT)
+    u8::get(s, layout::POSTS_AT + layout::POST_COUNT_AT)
 }
 
 // One post more, in the record's bytes: only those of the posts change. Ruled out: a mark changed; the

@@ -14,11 +14,7 @@ fn places_of(ids: &[u16]) -> [u16; size::MOST_MEMBERS]
     ensures { result ≡ members_placed ids.now }
 {
     let mut members = [0u16; size::MOST_MEMBERS];
-    let mut i = 0;
-    while i < ids.len() {
-        members[i] = ids[i];
-        i += 1;
-    }
+    members[..ids.len()].copy_from_slice(ids);
     members
 }
 

@@ -2,7 +2,7 @@
 // so a head is small and goes by value where the whole would be copied. A count stands last in it, behind the
 // arrays: there is no hole between fields, and a copy moves them by whole words.
 ghost use Rattle.std.specs.Prelude.{◌≡◌};
-ghost use Rattle.record.specs.inner.Head.{record_showing, record_head, head_with, head_with_parts};
+ghost use Rattle.record.specs.inner.Head.{record_showing, head_of, posts_head, record_head};
 
 use crate::log::{Held, Log};
 use crate::posts::Posts;
@@ -39,80 +39,28 @@ pub struct Head {
     pub posts: PostsHead,
 }
 
-// A head with other parts: whatever else it has stays. Ruled out: another own id.
-pub fn with_parts(h: Head, log: LogHead, turn: Turn, posts: PostsHead) -> Head
-    ensures { result ≡ head_with_parts h log turn posts }
-{
-    Head {
-        log,
-        turn,
-        own: h.own,
-        posts,
-    }
-}
+// A log without its contents.
+impl From<Log> for LogHead {
+    ghost from_gives = { λ l h. h ≡ head_of l };
 
-// The head of a log with other marks and other places. Ruled out: two marks swapped; a member left out.
-pub fn head_with(
-    l: LogHead,
-    level: MessageNumber,
-    safe: MessageNumber,
-    delivered: MessageNumber,
-    senders: [u16; size::MOST_HELD],
-    services: [u16; size::MOST_HELD],
-    lengths: [u8; size::MOST_HELD],
-) -> LogHead
-    ensures { result ≡ head_with l level safe delivered senders services lengths }
-{
-    let ring = l.ring;
-    let members = l.members;
-    LogHead {
-        ring,
-        members,
-        level,
-        safe,
-        delivered,
-        senders,
-        services,
-        lengths,
-        count: l.count,
-    }
-}
-
-// With other marks alone. Ruled out: two marks swapped; a place emptied.
-pub fn marked(
-    l: LogHead,
-    level: MessageNumber,
-    safe: MessageNumber,
-    delivered: MessageNumber,
-) -> LogHead
-    ensures { result ≡ head_with l level safe delivered l.senders l.services l.lengths }
-{
-    let senders = l.senders;
-    let services = l.services;
-    let lengths = l.lengths;
-    head_with(l, level, safe, delivered, senders, services, lengths)
-}
-
-// A record without its contents.
-pub fn head_of(r: Record) -> Head
-    ensures { result ≡ record_head r }
-{
-    let ring = r.log.ring;
-    let members = r.log.members;
-    let level = r.log.level;
-    let safe = r.log.safe;
-    let delivered = r.log.delivered;
-    let senders = r.log.held.senders;
-    let services = r.log.held.services;
-    let lengths = r.log.held.lengths;
-    let turn = r.turn;
-    let post_services = r.posts.services;
-    let post_lengths = r.posts.lengths;
-    Head {
-        own: r.own,
-        log: LogHead {
+    fn from(l: Log) -> LogHead {
+        let Log {
             ring,
-            count: r.log.count,
+            count,
+            members,
+            level,
+            safe,
+            delivered,
+            held,
+        } = l;
+        let Held {
+            senders,
+            services,
+            lengths,
+            ..
+        } = held;
+        LogHead {
+            ring,
             members,
             level,
             safe,
@@ -120,13 +68,48 @@ pub fn head_of(r: Record) -> Head
             senders,
             services,
             lengths,
-        },
-        turn,
-        posts: PostsHead {
-            count: r.posts.count,
-            services: post_services,
-            lengths: post_lengths,
-        },
+            count,
+        }
+    }
+}
+
+// The waiting posts without their contents.
+impl From<Posts> for PostsHead {
+    ghost from_gives = { λ p h. h ≡ posts_head p };
+
+    fn from(p: Posts) -> PostsHead {
+        let Posts {
+            count,
+            services,
+            lengths,
+            ..
+        } = p;
+        PostsHead {
+            services,
+            lengths,
+            count,
+        }
+    }
+}
+
+// A record without its contents.
+impl From<Record> for Head {
+    ghost from_gives = { λ r h. h ≡ record_head r };
+
+    fn from(r: Record) -> Head {
+        let Record {
+            own,
+            log,
+            turn,
+            posts,
+            ..
+        } = r;
+        Head {
+            log: LogHead::from(log),
+            turn,
+            own,
+            posts: PostsHead::from(posts),
+        }
     }
 }
 
@@ -139,40 +122,49 @@ pub fn record_showing(
 ) -> Record
     ensures { result ≡ record_showing panel h contents waiting }
 {
-    let ring = h.log.ring;
-    let members = h.log.members;
-    let level = h.log.level;
-    let safe = h.log.safe;
-    let delivered = h.log.delivered;
-    let senders = h.log.senders;
-    let services = h.log.services;
-    let lengths = h.log.lengths;
+    let LogHead {
+        ring,
+        members,
+        level,
+        safe,
+        delivered,
+        senders,
+        services,
+        lengths,
+        count,
+    } = h.log;
+    let held = Held {
+        senders,
+        services,
+        lengths,
+        contents,
+    };
+    let log = Log {
+        ring,
+        count,
+        members,
+        level,
+        safe,
+        delivered,
+        held,
+    };
+    let PostsHead {
+        services,
+        lengths,
+        count,
+    } = h.posts;
+    let posts = Posts {
+        count,
+        services,
+        lengths,
+        contents: waiting,
+    };
     let turn = h.turn;
-    let post_services = h.posts.services;
-    let post_lengths = h.posts.lengths;
     Record {
         own: h.own,
         panel,
-        log: Log {
-            ring,
-            count: h.log.count,
-            members,
-            level,
-            safe,
-            delivered,
-            held: Held {
-                senders,
-                services,
-                lengths,
-                contents,
-            },
-        },
+        log,
         turn,
-        posts: Posts {
-            count: h.posts.count,
-            services: post_services,
-            lengths: post_lengths,
-            contents: waiting,
-        },
+        posts,
     }
 }

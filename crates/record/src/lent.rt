@@ -12,7 +12,8 @@ ghost use Rattle.record.specs.Lent.{lent, bytes_whole};
 
 use crate::head::{Head, LogHead, PostsHead};
 use crate::{bytes, fresh, held, layout, panel, posts, size, whole};
-use frames::{MessageNumber, RingNumber};
+use frames::{Message, MessageNumber, RingNumber};
+use words::Word;
 
 // The head of the record, for whatever comes next; bytes of another length have the head of nobody's record.
 // Ruled out: two marks swapped; the head of a record at the front of a longer slice.
@@ -35,14 +36,10 @@ pub fn is_whole_at(h: Head, s: &[u8]) -> bool
     if s.len() != layout::RECORD_SIZE {
         return false;
     }
-    if words::get_u8(s, layout::PANEL_AT) != panel::undelivered(h.log) {
+    if u8::get(s, layout::PANEL_AT) != panel::undelivered(h.log) {
         return false;
     }
-    whole::is_whole_on(
-        h,
-        &s[layout::CONTENTS_AT..layout::CONTENTS_END],
-        &s[layout::WAITING_AT..],
-    )
+    whole::is_whole_on(h, contents_in(s), waiting_in(s))
 }
 
 // The same of bytes alone. Ruled out: yes to every record of the right length; yes to a longer slice.
@@ -53,33 +50,38 @@ pub fn is_whole_in(s: &[u8]) -> bool
 }
 
 // The contents of the held messages. Ruled out: the contents of the posts; one byte too few.
-pub fn contents_in(s: &[u8]) -> &[u8]
+pub fn contents_in(s: &[u8]) -> &[u8; size::HELD_CONTENTS]
     requires { record_size ≤ length s.now }
     ensures { result.now ≡ contents_in s.now log_at }
 {
-    &s[layout::CONTENTS_AT..layout::CONTENTS_END]
+    s[layout::CONTENTS_AT..layout::CONTENTS_END]
+        .as_array()
+        .unwrap()
+}
+
+// The contents of the waiting posts. Ruled out: the contents of the held messages; one byte too few.
+fn waiting_in(s: &[u8]) -> &[u8; size::POST_CONTENTS]
+    requires { record_size ≤ length s.now }
+    ensures { result.now ≡ waiting_in s.now posts_at }
+{
+    s[layout::WAITING_AT..layout::RECORD_SIZE]
+        .as_array()
+        .unwrap()
 }
 
 // What is done to the log leaves everything behind it, and what is done to the posts everything before their
 // contents.
 
 // A message is held under a number. Ruled out: another number's message written over; a post's content changed.
-pub fn store_in(
-    l: LogHead,
-    s: &mut [u8],
-    n: MessageNumber,
-    sender: u16,
-    service: u16,
-    content: &[u8],
-) -> LogHead
+pub fn store_in(l: LogHead, s: &mut [u8], m: Message, content: &[u8]) -> LogHead
     requires { (length s.old ≡ record_size) × (length content.now ≤ most_content) }
     ensures { (log_on result (contents_in s.new log_at)
-        ≡ stored (log_on l (contents_in s.old log_at)) n.0
-        (record { sender = sender; service = service; content = content.now }))
+        ≡ stored (log_on l (contents_in s.old log_at)) m.number.0
+        (record { sender = m.sender; service = m.service; content = content.now }))
         × (drop turn_at s.new ≡ drop turn_at s.old) }
 {
     let contents = &mut s[layout::CONTENTS_AT..layout::CONTENTS_END];
-    held::store(l, contents, n, sender, service, content)
+    held::store(l, contents, m, content)
 }
 
 // The content of a waiting post, of this size, becomes that of a held message. Ruled out: another post's; the
@@ -93,10 +95,10 @@ pub fn hold_content_in(s: &mut [u8], post: usize, size: usize, n: MessageNumber)
 {
     let mut content = [0u8; frames::MOST_CONTENT];
     let from = layout::WAITING_AT + frames::MOST_CONTENT * post;
-    words::get_bytes(s, from, size, &mut content);
-    let place = n.0 as usize % size::MOST_HELD;
+    words::get_slice(s, from, size, &mut content);
+    let place = held::place_of(n);
     let contents = &mut s[layout::CONTENTS_AT..layout::CONTENTS_END];
-    words::put_bytes(contents, frames::MOST_CONTENT * place, &content[0..size]);
+    words::put_slice(contents, frames::MOST_CONTENT * place, &content[0..size]);
 }
 
 // Everything up to a new safe mark is let go. Ruled out: the mark's own message kept; one above it let go.

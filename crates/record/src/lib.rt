@@ -11,6 +11,7 @@ mod log;
 mod log_bytes;
 mod members;
 mod panel;
+mod places;
 mod posts;
 mod posts_bytes;
 mod range;
@@ -22,13 +23,13 @@ mod unused;
 mod whole;
 
 // Structs and sizes, and functions of any values and bytes.
-pub use head::{Head, LogHead, PostsHead, head_with, marked, with_parts};
+pub use head::{Head, LogHead, PostsHead};
 pub use layout::RECORD_SIZE;
 pub use lent::{head_in, is_whole_in};
 pub use log::{Held, Log};
-pub use members::{ids_follow, is_member, members_counted};
+pub use members::{ids_follow, is_member, members_counted, representative_of};
 pub use posts::Posts;
-pub use ring::{representative_of, this_ring, token_members};
+pub use ring::{this_ring, token_members};
 pub use size::{MOST_BROADCASTS, MOST_HELD, MOST_MEMBERS, MOST_POSTS};
 pub use turn::Turn;
 pub use whole::is_whole;
@@ -37,6 +38,7 @@ pub use whole::is_whole;
 pub use bytes::{decode, encode, post_count, put_fresh, put_head, put_post, turn_in};
 pub use held::{is_held, numbers_before};
 pub use lent::{contents_in, hold_content_in, is_whole_at, let_go_in, store_in, take_oldest_in};
+pub use places::every_place;
 
 #[derive(Clone, Copy)]
 pub struct Record {

@@ -3,7 +3,8 @@ use crate::size;
 use frames::{MessageNumber, RingNumber};
 
 // A message stands at the place that its number fixes: the number modulo MOST_HELD. A place is in
-// use where its sender is not 0. Contents stand 64 bytes apart, zero past their lengths.
+// use where its sender is not 0. Contents stand 64 bytes apart, zero past their lengths. Arrays side by side, as the
+// record's bytes are, with no heap.
 #[derive(Clone, Copy)]
 pub struct Held {
     pub senders: [u16; size::MOST_HELD],

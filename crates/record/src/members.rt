@@ -1,6 +1,6 @@
 // The founding questions, of a list of ids, the own id and the ring number.
 ghost use Rattle.std.specs.Prelude.{◌≡◌};
-ghost use Rattle.record.specs.Members.{is_member, members_counted, ids_follow, foundable};
+ghost use Rattle.record.specs.Members.{is_member, representative, members_counted, ids_follow, foundable};
 
 use crate::size;
 use frames::RingNumber;
@@ -9,7 +9,15 @@ use frames::RingNumber;
 pub fn is_member(ids: &[u16], id: u16) -> bool
     ensures { result ≡ is_member ids.now id }
 {
-    !words::lacks_u16(ids, id)
+    ids.contains(&id)
+}
+
+// The first in circulation order, or 0 of an empty list: so the definition has it, which question 13 compares with a
+// frame's. Ruled out: the last; the own id.
+pub fn representative_of(ids: &[u16]) -> u16
+    ensures { result ≡ representative ids.now }
+{
+    ids.first().copied().unwrap_or(0)
 }
 
 // Question 3. Ruled out: one alone taken; eight refused.
@@ -23,13 +31,9 @@ pub fn members_counted(ids: &[u16]) -> bool
 pub fn ids_follow(ids: &[u16]) -> bool
     ensures { result ≡ ids_follow ids.now }
 {
-    if ids.len() == 0 {
-        return true;
-    }
-    let first = ids[0];
-    words::all_within_u16(ids, 1, frames::MOST_ID)
-        & words::distinct_u16(ids)
-        & words::all_within_u16(ids, first, frames::MOST_ID)
+    words::all_within(ids, 1, frames::MOST_ID)
+        & words::distinct(ids)
+        & words::all_within(ids, representative_of(ids), frames::MOST_ID)
 }
 
 // Questions 3 to 6, as whole asks them.

@@ -1,5 +1,5 @@
 // The posts that wait for the token: the first `count` places, oldest first; the others are 0.
-// Contents stand 64 bytes apart, zero past their lengths.
+// Contents stand 64 bytes apart, zero past their lengths. Arrays side by side, as the record's bytes are, with no heap.
 ghost use Rattle.std.specs.Prelude.{◌≡◌, ◌++◌, ◌*◌, ◌-◌, ◌≤◌, ◌<◌, length, take, drop, replicate};
 ghost use Rattle.frames.specs.Layout.{most_content};
 ghost use Rattle.record.specs.Size.{most_posts, post_contents};
@@ -27,7 +27,7 @@ pub fn queue_on(p: PostsHead, waiting: &mut [u8], service: u16, content: &[u8]) 
     let place = p.count as usize;
     services[place] = service;
     lengths[place] = content.len() as u8;
-    words::put_bytes(waiting, frames::MOST_CONTENT * place, content);
+    words::put_slice(waiting, frames::MOST_CONTENT * place, content);
     PostsHead {
         count: p.count + 1,
         services,
@@ -42,15 +42,7 @@ fn move_up(waiting: &mut [u8], first: usize)
         ≡ take (most_content * (most_posts - first)) (drop (most_content * first) waiting.old)
         ++ drop (most_content * (most_posts - first)) waiting.old }
 {
-    let rest = size::MOST_POSTS - first;
-    let mut i = 0;
-    while i < rest {
-        let mut content = [0u8; frames::MOST_CONTENT];
-        let from = frames::MOST_CONTENT * (first + i);
-        words::get_bytes(waiting, from, frames::MOST_CONTENT, &mut content);
-        words::put_bytes(waiting, frames::MOST_CONTENT * i, &content);
-        i += 1;
-    }
+    waiting.copy_within(frames::MOST_CONTENT * first.., 0);
 }
 
 // The contents from a place on are cleared.
@@ -59,15 +51,7 @@ fn clear_from(waiting: &mut [u8], first: usize)
     ensures { waiting.new
         ≡ take (most_content * first) waiting.old ++ replicate (most_content * (most_posts - first)) 0 }
 {
-    let mut i = first;
-    while i < size::MOST_POSTS {
-        words::put_bytes(
-            waiting,
-            frames::MOST_CONTENT * i,
-            &[0u8; frames::MOST_CONTENT],
-        );
-        i += 1;
-    }
+    waiting[frames::MOST_CONTENT * first..].fill(0);
 }
 
 // Without the n oldest: the others move up, in the contents that are lent too. Ruled out: the newest taken; a
@@ -85,8 +69,8 @@ pub fn take_oldest(p: PostsHead, waiting: &mut [u8], n: u8) -> PostsHead
     let mut lengths = [0u8; size::MOST_POSTS];
     let first = n as usize;
     let rest = size::MOST_POSTS - first;
-    words::copy_u16s(&waiting_services, first, rest, &mut services);
-    words::get_bytes(&waiting_lengths, first, rest, &mut lengths);
+    words::get_slice(&waiting_services, first, rest, &mut services);
+    words::get_slice(&waiting_lengths, first, rest, &mut lengths);
     move_up(waiting, first);
     clear_from(waiting, rest);
     PostsHead {

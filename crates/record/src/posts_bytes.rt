@@ -7,17 +7,18 @@ ghost use Rattle.record.specs.inner.Head.{posts_on, waiting_in};
 
 use crate::head::PostsHead;
 use crate::{layout, size};
+use words::Word;
 
 pub fn get_posts_head(s: &[u8]) -> PostsHead
     requires { posts_size ≤ length s.now }
     ensures { posts_on result (waiting_in s.now 0) ≡ posts_of s.now }
 {
     let mut services = [0u16; size::MOST_POSTS];
-    words::get_u16s(s, layout::POST_SERVICES_AT, size::MOST_POSTS, &mut services);
+    words::get_run(s, layout::POST_SERVICES_AT, size::MOST_POSTS, &mut services);
     let mut lengths = [0u8; size::MOST_POSTS];
-    words::get_bytes(s, layout::POST_LENGTHS_AT, size::MOST_POSTS, &mut lengths);
+    words::get_slice(s, layout::POST_LENGTHS_AT, size::MOST_POSTS, &mut lengths);
     PostsHead {
-        count: words::get_u8(s, layout::POST_COUNT_AT),
+        count: u8::get(s, layout::POST_COUNT_AT),
         services,
         lengths,
     }
@@ -29,7 +30,7 @@ pub fn put_posts_head(out: &mut [u8], at: usize, p: PostsHead)
 {
     let services = p.services;
     let lengths = p.lengths;
-    words::put_u8(out, at + layout::POST_COUNT_AT, p.count);
-    words::put_u16s(out, at + layout::POST_SERVICES_AT, &services);
-    words::put_bytes(out, at + layout::POST_LENGTHS_AT, &lengths);
+    u8::put(out, at + layout::POST_COUNT_AT, p.count);
+    words::put_run(out, at + layout::POST_SERVICES_AT, &services);
+    words::put_slice(out, at + layout::POST_LENGTHS_AT, &lengths);
 }

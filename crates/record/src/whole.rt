@@ -1,5 +1,5 @@
 // Is a record whole?
-ghost use Rattle.std.specs.Prelude.{◌≡◌, cond, map, ◌≤◌, eqb, length};
+ghost use Rattle.std.specs.Prelude.{◌≡◌, cond, map, ◌≤◌, eqb, List, ℕ, length};
 ghost use Rattle.frames.specs.Number.{most_number};
 ghost use Rattle.frames.specs.Layout.{longest_token};
 ghost use Rattle.record.specs.Size.{most_members, held_contents, post_contents};
@@ -8,7 +8,7 @@ ghost use Rattle.record.specs.Whole.{senders_are_members, resend_passes, marks_i
 
 use crate::head::{Head, LogHead, PostsHead};
 use crate::turn::Turn;
-use crate::{Record, head, held, members, panel, range, ring, size, unused};
+use crate::{Record, held, members, panel, places, range, ring, size, unused};
 use frames::{MessageNumber, RingNumber};
 
 // 0 in place of this id; any other stays.
@@ -22,10 +22,8 @@ fn struck(x: u16, id: u16) -> u16
 fn strike(left: &mut [u16], id: u16)
     ensures { left.new ≡ map (λ x. cond (eqb x id) 0 x) left.old }
 {
-    let mut i = 0;
-    while i < left.len() {
-        left[i] = struck(left[i], id);
-        i += 1;
+    for x in left.iter_mut() {
+        *x = struck(*x, id);
     }
 }
 
@@ -36,14 +34,11 @@ fn senders_are_members(ids: &[u16], senders: [u16; size::MOST_HELD]) -> bool
     requires { length ids.now ≤ most_members }
     ensures { result ≡ senders_are_members ids.now senders }
 {
-    let count = words::smaller_usize(ids.len(), size::MOST_MEMBERS);
     let mut left = senders;
-    let mut i = 0;
-    while i < count {
-        strike(&mut left, ids[i]);
-        i += 1;
+    for id in &ids[..ids.len().min(size::MOST_MEMBERS)] {
+        strike(&mut left, *id);
     }
-    words::all_zero_u16(&left)
+    words::all_zero(&left)
 }
 
 fn resend_passes(ring: RingNumber, ids: &[u16], t: Turn) -> bool
@@ -57,8 +52,8 @@ fn resend_passes(ring: RingNumber, ids: &[u16], t: Turn) -> bool
     ring::token_passes(ring, ids, &token[0..t.size as usize])
 }
 
-fn marks_in_order(l: LogHead, contents: &[u8]) -> bool
-    ensures { result ≡ marks_in_order (log_on l contents.now) }
+fn marks_in_order(l: LogHead) -> bool
+    ensures { (contents : List ℕ) → result ≡ marks_in_order (log_on l contents) }
 {
     (l.safe.0 <= l.delivered.0) & (l.delivered.0 <= l.level.0)
 }
@@ -69,39 +64,33 @@ fn arus_reached(t: Turn, level: MessageNumber) -> bool
     (t.aru.0 <= level.0) & (t.earlier.0 <= level.0)
 }
 
-// Place by place, with no way out of the loop, so that the compiler can test many at once.
-fn held_to_level(l: LogHead, contents: &[u8]) -> bool
-    ensures { result ≡ held_to_level (log_on l contents.now) }
+fn held_to_level(l: LogHead) -> bool
+    ensures { (contents : List ℕ) → result ≡ held_to_level (log_on l contents) }
 {
-    let senders = l.senders;
-    let many = words::saturating_sub(l.level.0, l.safe.0);
+    let many = l.level.0.saturating_sub(l.safe.0);
     if (size::MOST_HELD as u32) < many {
         return false;
     }
-    let mut good = true;
-    let mut i = 0;
-    while i < size::MOST_HELD {
-        let before = held::numbers_before(l.safe, i);
-        good = good & ((many <= before) | (senders[i] != 0));
-        i += 1;
-    }
-    good
+    places::every_place(
+        l.safe,
+        &l.senders,
+        |before, in_use| (many <= before) | in_use,
+    )
 }
 
-fn next_not_held(l: LogHead, contents: &[u8]) -> bool
+fn next_not_held(l: LogHead) -> bool
     requires { (l.safe.0 ≤ most_number) × (l.level.0 ≤ most_number) }
-    ensures { result ≡ next_not_held (log_on l contents.now) }
+    ensures { (contents : List ℕ) → result ≡ next_not_held (log_on l contents) }
 {
     !held::is_held(l.safe, &l.senders, MessageNumber(l.level.0 + 1))
 }
 
 // The clauses of the log: its ranges first, which the others need. Ruled out: a gap below the level; a stranger's
 // message held.
-fn log_whole(own: u16, l: LogHead, contents: &[u8]) -> bool
-    requires { length contents.now ≡ held_contents }
+fn log_whole(own: u16, l: LogHead, contents: &[u8; size::HELD_CONTENTS]) -> bool
     ensures { result ≡ log_whole own (log_on l contents.now) }
 {
-    if !range::log_in_range(l, contents) {
+    if !range::log_in_range(l) {
         return false;
     }
     let members = l.members;
@@ -110,16 +99,16 @@ fn log_whole(own: u16, l: LogHead, contents: &[u8]) -> bool
     let ids = &members[0..n];
     senders_are_members(ids, senders)
         & members::foundable_by(ids, own, l.ring)
-        & marks_in_order(l, contents)
-        & held_to_level(l, contents)
-        & next_not_held(l, contents)
+        & marks_in_order(l)
+        & held_to_level(l)
+        & next_not_held(l)
         & unused::log_unused_zero(l, contents)
 }
 
 // The clauses of the turn. Ruled out: a token of another ring; an aru above the level.
-fn turn_whole(l: LogHead, contents: &[u8], t: Turn) -> bool
+fn turn_whole(l: LogHead, t: Turn) -> bool
     requires { l.count ≤ most_members }
-    ensures { result ≡ turn_whole (log_on l contents.now) t }
+    ensures { (contents : List ℕ) → result ≡ turn_whole (log_on l contents) t }
 {
     if !range::turn_in_range(t) {
         return false;
@@ -132,11 +121,10 @@ fn turn_whole(l: LogHead, contents: &[u8], t: Turn) -> bool
 }
 
 // The clauses of the posts.
-fn posts_whole(p: PostsHead, waiting: &[u8]) -> bool
-    requires { length waiting.now ≡ post_contents }
+fn posts_whole(p: PostsHead, waiting: &[u8; size::POST_CONTENTS]) -> bool
     ensures { result ≡ posts_whole (posts_on p waiting.now) }
 {
-    if !range::posts_in_range(p, waiting) {
+    if !range::posts_in_range(p) {
         return false;
     }
     unused::posts_unused_zero(p, waiting)
@@ -144,8 +132,11 @@ fn posts_whole(p: PostsHead, waiting: &[u8]) -> bool
 
 // All clauses but the panel's, of any values of the head and any contents: the posts, then the log, which the turn
 // needs. Ruled out: a record with a gap below its level; one whose token is another ring's.
-pub fn is_whole_on(h: Head, contents: &[u8], waiting: &[u8]) -> bool
-    requires { (length contents.now ≡ held_contents) × (length waiting.now ≡ post_contents) }
+pub fn is_whole_on(
+    h: Head,
+    contents: &[u8; size::HELD_CONTENTS],
+    waiting: &[u8; size::POST_CONTENTS],
+) -> bool
     ensures { result ≡ parts_whole (record_on h contents.now waiting.now) }
 {
     if !posts_whole(h.posts, waiting) {
@@ -154,7 +145,7 @@ pub fn is_whole_on(h: Head, contents: &[u8], waiting: &[u8]) -> bool
     if !log_whole(h.own, h.log, contents) {
         return false;
     }
-    turn_whole(h.log, contents, h.turn)
+    turn_whole(h.log, h.turn)
 }
 
 // The same of a record by value.
@@ -163,7 +154,7 @@ pub fn is_whole(r: Record) -> bool
 {
     let contents = r.log.held.contents;
     let waiting = r.posts.contents;
-    let h = head::head_of(r);
+    let h = Head::from(r);
     if r.panel != panel::undelivered(h.log) {
         return false;
     }

@@ -1,16 +1,17 @@
 -- The words of demand 3, each a definition of its own. A history has the events, the newest first.
 -- [document 01, The words of demand 3]
-use Rattle.std.specs.Prelude.{ℕ, ◌+◌, ◌≡◌, Bool, true, false, ◌&&◌, ◌||◌, cond, List, [], ◌∷◌, ◌++◌, map, ◌⊎◌, eqb}
+use Rattle.std.specs.Prelude.{ℕ, ◌+◌, ◌≡◌, Bool, true, false, ◌&&◌, ◌||◌, cond, List, [], ◌∷◌, ◌++◌, map, ◌⊎◌, eqb, Result, Ok, Err}
 use Rattle.std.proofs.Math.Option.{Option, none, some}
 use Rattle.frames.specs.Read.{read_of}
 use Rattle.frames.specs.declared.header.Header.{Header}
-use Rattle.frames.specs.declared.reader.Answer.{Answer}
-use Rattle.frames.specs.declared.reader.Answer.TheVariants.{Refused, IsMessage, IsToken}
-use Rattle.record.specs.Ring.{is_token}
+use Rattle.frames.specs.declared.refusal.Refusal.{Refusal}
+use Rattle.frames.specs.declared.reader.Frame.{Frame}
+use Rattle.frames.specs.declared.reader.Frame.TheVariants.{Message as IsMessage, Token as IsToken}
 use Rattle.station.specs.Answer.{outcome_of}
 use Rattle.station.specs.Reply.{Reply}
 use Rattle.visit.specs.Within.{frames_in}
 use Rattle.station.specs.declared.answer.Answer.{Answer as Said}
+use Rattle.station.specs.declared.refusal.Refusal.{Refusal as Refused}
 use Rattle.ordering.specs.Lists.{Among, first_of}
 use Rattle.ring.specs.Calls.{Call, post, arrival, resending, station_of}
 
@@ -49,30 +50,30 @@ OnCable firsts history frame = Among frame firsts ⊎ ((place : ℕ) × Among (w
 abbrev pub same_ring : Header → Header → Bool
 same_ring ring h = eqb h.ring.0 ring.ring.0 && eqb h.representative ring.representative
 
-abbrev pub is_message_of : Header → ℕ → Answer → Bool
-is_message_of ring n (Refused why) = false
-is_message_of ring n (IsMessage m) = same_ring ring m.header && eqb m.number.0 n
-is_message_of ring n IsToken = false
+abbrev pub is_message_of : Header → ℕ → Result Frame Refusal → Bool
+is_message_of ring n (Err why) = false
+is_message_of ring n (Ok (IsMessage m)) = same_ring ring m.header && eqb m.number.0 n
+is_message_of ring n (Ok (IsToken t)) = false
 
 unfoldable pub is_numbered : Header → ℕ → List ℕ → Bool
-is_numbered ring n frame = is_message_of ring n (read_of frame).answer
+is_numbered ring n frame = is_message_of ring n (read_of frame)
 
 unfoldable pub reading : Header → List Event → ℕ → Option Written
 reading ring history n = first_of (λ w. is_numbered ring n w.frame) (written_in history)
 
 -- its service says whether it is safe
-abbrev pub says_safe : Answer → Bool
-says_safe (Refused why) = false
-says_safe (IsMessage m) = eqb m.service 1
-says_safe IsToken = false
+abbrev pub says_safe : Result Frame Refusal → Bool
+says_safe (Err why) = false
+says_safe (Ok (IsMessage m)) = eqb m.service 1
+says_safe (Ok (IsToken t)) = false
 
 unfoldable pub is_safe : List ℕ → Bool
-is_safe frame = says_safe (read_of frame).answer
+is_safe frame = says_safe (read_of frame)
 
 -- ---- reading n is received at a station: an arrival there answered 'kept' for its frame, or the call that first wrote it was made there
 
 -- the outcome 'kept' is 3
-abbrev pub said_kept : Said → Bool
+abbrev pub said_kept : Result Said Refused → Bool
 said_kept answer = eqb (outcome_of answer).outcome 3
 
 -- the frame that was handed over
@@ -111,18 +112,29 @@ DeliveredAt p history frame = Among frame (deliveries p history)
 
 -- ---- accepted token: an arrival of a token whose answer writes the token with the next number
 
+-- what was read is a token with that number
+abbrev pub is_token_of : ℕ → Result Frame Refusal → Bool
+is_token_of n (Err why) = false
+is_token_of n (Ok (IsMessage m)) = false
+is_token_of n (Ok (IsToken t)) = eqb t.number.0 n
+
 -- a token frame with that number
 unfoldable pub is_token_numbered : ℕ → List ℕ → Bool
-is_token_numbered n frame = is_token (read_of frame).answer && eqb (read_of frame).token.number.0 n
+is_token_numbered n frame = is_token_of n (read_of frame)
 
 unfoldable pub any_of : (List ℕ → Bool) → List (List ℕ) → Bool
 any_of test [] = false
 any_of test (f ∷ fs) = test f || any_of test fs
 
+-- what was read is a token, and the next is among these frames
+abbrev pub next_among : Result Frame Refusal → List (List ℕ) → Bool
+next_among (Err why) frames = false
+next_among (Ok (IsMessage m)) frames = false
+next_among (Ok (IsToken t)) frames = any_of (is_token_numbered (t.number.0 + 1)) frames
+
 abbrev pub accepts_token : Option (List ℕ) → List (List ℕ) → Bool
 accepts_token none frames = false
-accepts_token (some frame) frames =
-    is_token (read_of frame).answer && any_of (is_token_numbered ((read_of frame).token.number.0 + 1)) frames
+accepts_token (some frame) frames = next_among (read_of frame) frames
 
 unfoldable pub is_accepted : Event → Bool
 is_accepted e = accepts_token (handed_over e.call) (written_by e)

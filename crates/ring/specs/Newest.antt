@@ -2,7 +2,8 @@
 -- doesn't come to a stop by itself. [document 01, Questions at the door: 1, 2, 10 to 18]
 use Rattle.std.specs.Prelude.{ℕ, ◌<◌, ◌≤◌, ◌≡◌, true, cond, List, [], ◌∷◌, length, get_or}
 use Rattle.frames.specs.Number.{most_number}
-use Rattle.frames.specs.Read.{read_of}
+use Rattle.frames.specs.Read.{read_of, a_token}
+use Rattle.frames.specs.declared.token.Token.{Token}
 use Rattle.visit.specs.Output.{most_frames, most_deliveries}
 use Rattle.ring.specs.Calls.{Call, arrival}
 use Rattle.ring.specs.History.{Event, written_by, is_accepted}
@@ -23,15 +24,17 @@ module _ (members : List ℕ) (ring : ℕ) (a : Account) where
   abbrev pub newest_after : List Call → List ℕ
   newest_after calls = newest (first_frame members ring) (a.history calls)
 
-  -- it is addressed to a member, which accepts it whenever the buffers are large enough and its number is not the last
+  -- it reads as a token, addressed to a member, which accepts it whenever the buffers are large enough and its number is not the last
   pub record NewestAccepted (calls : List Call) : Type 0 where
     pub place : ℕ
     pub here : place < length members
-    pub addressed : (read_of (newest_after calls)).token.addressee ≡ get_or members place 0
+    pub token : Token
+    pub reads : read_of (newest_after calls) ≡ a_token token
+    pub addressed : token.addressee ≡ get_or members place 0
     pub accepts : (frames deliveries : List ℕ)
         → most_frames ≤ length frames
         → most_deliveries ≤ length deliveries
-        → (read_of (newest_after calls)).token.number.0 < most_number
+        → token.number.0 < most_number
         → is_accepted (event_after a calls (arrival place (newest_after calls) frames deliveries)) ≡ true
 
 abbrev pub NeverRefused : Type 0

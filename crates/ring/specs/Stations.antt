@@ -1,10 +1,11 @@
 -- A ring of stations for programs: their records stand one after another in lent bytes, place p's from record_size * p on. Each call at a
 -- place is the call over bytes on the record there. [document 01, The station and its neighbours; Trials: the bench]
-use Rattle.std.specs.Prelude.{ℕ, zero, suc, ◌+◌, ◌*◌, ◌-◌, ◌<◌, ◌≡◌, Bool, true, false, cond, List, [], ◌∷◌, ◌++◌, length, get_or, take, drop, leb, eqb}
+use Rattle.std.specs.Prelude.{ℕ, zero, suc, ◌+◌, ◌*◌, ◌-◌, ◌<◌, ◌≡◌, Bool, true, false, cond, List, [], ◌∷◌, ◌++◌, length, get_or, take, drop, leb, eqb, Option, Some, None, Result, Ok, Err}
 use Rattle.frames.specs.Layout.{shortest_token}
 use Rattle.frames.specs.Read.{read_of}
-use Rattle.frames.specs.declared.reader.Answer.{Answer}
-use Rattle.frames.specs.declared.reader.Answer.TheVariants.{Refused, IsMessage, IsToken}
+use Rattle.frames.specs.declared.refusal.Refusal.{Refusal as Unread}
+use Rattle.frames.specs.declared.reader.Frame.{Frame}
+use Rattle.frames.specs.declared.reader.Frame.TheVariants.{Message as IsMessage, Token as IsToken}
 use Rattle.record.specs.Layout.{record_size}
 use Rattle.record.specs.Lent.{no_record}
 use Rattle.station.specs.Reply.{Reply, refused}
@@ -74,10 +75,10 @@ FoundedForDemand = (records list : List ℕ) (ring room : ℕ)
 
 -- ---- broadcasts reach one place: the message frames within the bytes that a call wrote, in the order written, one arrival each
 
-abbrev pub is_message : Answer → Bool
-is_message (Refused why) = false
-is_message (IsMessage m) = true
-is_message IsToken = false
+abbrev pub is_message : Result Frame Unread → Bool
+is_message (Err why) = false
+is_message (Ok (IsMessage m)) = true
+is_message (Ok (IsToken t)) = false
 
 -- what a place has come to: the bytes of its record, and what it has handed out, joined
 pub record HeardThere : Type 0 where
@@ -92,7 +93,7 @@ hears_message room h frame =
 
 -- a frame more; a token isn't for all
 abbrev pub hears : ℕ → HeardThere → List ℕ → HeardThere
-hears room h frame = cond (is_message (read_of frame).answer) (hears_message room h frame) h
+hears room h frame = cond (is_message (read_of frame)) (hears_message room h frame) h
 
 -- a place before a frame reaches it, its deliveries so far in the first `at` bytes of a buffer
 abbrev pub heard_so_far : ℕ → List ℕ → List ℕ → ℕ → HeardThere
@@ -113,11 +114,17 @@ heard_at p records written room = hears_all room (record { bytes = record_at p r
 
 -- ---- the addressee's place
 
--- the place of an id, counted from p on; the place after the last where it is nobody's
-unfoldable pub place_from : ℕ → List ℕ → ℕ → ℕ
-place_from p [] id = p
-place_from p (x ∷ xs) id = cond (eqb x id) p (place_from (suc p) xs id)
+-- the place of an id, counted from p on; none where it is nobody's
+unfoldable pub place_from : ℕ → List ℕ → ℕ → Option ℕ
+place_from p [] id = None
+place_from p (x ∷ xs) id = cond (eqb x id) (Some p) (place_from (suc p) xs id)
+
+-- whom a token is addressed to; 0 of what is no token
+abbrev pub addressee_of : Result Frame Unread → ℕ
+addressee_of (Err why) = 0
+addressee_of (Ok (IsMessage m)) = 0
+addressee_of (Ok (IsToken t)) = t.addressee
 
 -- in a list of two bytes an id
-unfoldable pub addressee_place : List ℕ → List ℕ → ℕ
-addressee_place list token = place_from 0 (ids_in list) (read_of token).token.addressee
+unfoldable pub addressee_place : List ℕ → List ℕ → Option ℕ
+addressee_place list token = place_from 0 (ids_in list) (addressee_of (read_of token))

@@ -1,6 +1,7 @@
 // The frames within the bytes that a call wrote, one after another: messages for all stations, and a
 // visit's token last.
 ghost use Rattle.std.specs.Prelude.{◌≡◌, ◌≤◌, ◌<◌, [], length, take};
+ghost use Rattle.std.specs.Iterator.{YieldsFirstRef, item_count};
 ghost use Rattle.frames.specs.Header.{own_size};
 ghost use Rattle.frames.specs.Read.{read_of};
 ghost use Rattle.visit.specs.Output.{followed_by};
@@ -9,6 +10,7 @@ ghost use Rattle.ring.specs.Newest.{last_of};
 ghost use Rattle.ring.specs.Stations.{with_record, is_message, Reached, heard_at};
 
 use crate::stations;
+use frames::Frame;
 
 // How long the first frame within these bytes is; there is one while there are bytes. Ruled out: a
 // size past their end; 0 for a length field that is cut off.
@@ -16,14 +18,42 @@ pub fn first_size(written: &[u8]) -> usize
     ensures value { result ≡ length (take (own_size written.now) written.now) }
     ensures result_nonzero { 0 < length written.now → 0 < result }
 {
-    let size = frames::framed_size(written);
-    if size == 0 {
-        return written.len();
+    match frames::framed_size(written) {
+        Some(size) => size.min(written.len()),
+        None => written.len(),
     }
-    if written.len() < size {
-        return written.len();
+}
+
+// The frames that are still to come: the first of them is the next. Ruled out: a frame left out; two
+// frames as one.
+#[derive(Drop)]
+pub struct Frames<'a> {
+    rest: &'a [u8],
+}
+
+impl<'a> Frames<'a> {
+    pub fn new(written: &'a [u8]) -> Frames<'a>
+        ensures { result.rest.now ≡ written.now }
+    {
+        Frames { rest: written }
     }
-    size
+}
+
+impl<'a> Iterator for Frames<'a> {
+    type Item = &'a [u8];
+
+    ghost next_gives = { YieldsFirstRef (λ s. frames_in s.rest.now) };
+
+    ghost remaining = { item_count (λ s. frames_in s.rest.now) };
+
+    fn next(&mut self) -> Option<&'a [u8]> {
+        if self.rest.is_empty() {
+            return None;
+        }
+        let (frame, rest) = self.rest.split_at(first_size(self.rest));
+        self.rest = rest;
+        Some(frame)
+    }
 }
 
 // The last of the frames: a visit's token. Ruled out: the first frame; a copy that is not a part of
@@ -31,25 +61,13 @@ pub fn first_size(written: &[u8]) -> usize
 pub fn newest_token(written: &[u8]) -> &[u8]
     ensures { result.now ≡ last_of [] (frames_in written.now) }
 {
-    let mut from = 0;
-    let mut next = first_size(written);
-    while next < written.len() {
-        from = next;
-        next = from + first_size(&written[from..]);
-    }
-    &written[from..]
+    Frames::new(written).last().unwrap_or(&[])
 }
 
 fn is_message(frame: &[u8]) -> bool
-    ensures { result ≡ is_message (read_of frame.now).answer }
+    ensures { result ≡ is_message (read_of frame.now) }
 {
-    let reading = frames::read(frame);
-    let answer = reading.answer;
-    match answer {
-        frames::Answer::Refused(_) => false,
-        frames::Answer::IsMessage(_) => true,
-        frames::Answer::IsToken => false,
-    }
+    matches!(frames::read(frame), Ok(Frame::Message(_)))
 }
 
 // A frame reaches a place unless it is a token. What it hands out goes into `deliveries` from `at`
@@ -78,12 +96,9 @@ pub fn hear_all(records: &mut [u8], place: usize, written: &[u8], deliveries: &m
         (heard_at place records.old written.now (length deliveries.old)).handed
         deliveries.old) }
 {
-    let mut from = 0;
     let mut at = 0;
-    while from < written.len() {
-        let next = from + first_size(&written[from..]);
-        at = hear(records, place, &written[from..next], deliveries, at);
-        from = next;
+    for frame in Frames::new(written) {
+        at = hear(records, place, frame, deliveries, at);
     }
     at
 }

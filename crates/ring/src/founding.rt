@@ -8,9 +8,10 @@ ghost use Rattle.ring.specs.Stations.{record_at, records_after, ring_founded, fo
 
 use crate::{members, stations};
 use frames::RingNumber;
-use station::{Answer, Outcome, Refusal};
+use station::{Outcome, Refusal};
 
-// The member at a place founds its own station.
+// The member at a place founds its own station. Past the list's end, as where the list is empty, its id
+// is 0.
 fn found_at(
     records: &mut [u8],
     place: usize,
@@ -27,7 +28,7 @@ fn found_at(
         (found_over (record_at place records.old) list.now (get_or (ids_in list.now) place 0) ring.0 (length token.old)).frames
         token.old) }
 {
-    let own = members::id_at(list, place);
+    let own = members::id_at(list, place).unwrap_or(0);
     let from = stations::start_of(records, place);
     let end = stations::end_of(records, place);
     totem::totem_found(&mut records[from..end], list, own, ring.0, token)
@@ -41,10 +42,8 @@ fn found_others(records: &mut [u8], list: &[u8], ring: RingNumber, n: usize)
         → records.new ≡ founded_up_to list.now ring.0 before n }
 {
     let mut token = [0u8; frames::SHORTEST_TOKEN];
-    let mut i = 1;
-    while i < n {
-        found_at(records, i, list, ring, &mut token);
-        i += 1;
+    for place in 1..n {
+        found_at(records, place, list, ring, &mut token);
     }
 }
 
@@ -59,7 +58,7 @@ pub fn found_ring(records: &mut [u8], list: &[u8], ring: RingNumber, token: &mut
 {
     let n = members::id_count(list);
     if records.len() / record::RECORD_SIZE < n {
-        return station::outcome_of(Answer::Refused(Refusal::NoRoom));
+        return Outcome::from(Err(Refusal::NoRoom));
     }
     let first = found_at(records, 0, list, ring, token);
     if first.refusal != 0 {

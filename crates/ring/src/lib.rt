@@ -12,7 +12,7 @@ ghost use Rattle.std.specs.Prelude.{◌≡◌, true};
 ghost use Rattle.ring.specs.Run.{ring_foundable};
 ghost use Rattle.ring.specs.Promise.{Promised};
 
-pub use broadcasts::{first_size, hear_all, newest_token};
+pub use broadcasts::{Frames, first_size, hear_all, newest_token};
 pub use founding::found_ring;
 use frames::RingNumber;
 pub use members::addressee_place;

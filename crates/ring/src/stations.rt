@@ -12,10 +12,7 @@ use station::Outcome;
 pub fn start_of(records: &[u8], place: usize) -> usize
     ensures { result ≡ min (record_size * place) (length records.now) }
 {
-    if records.len() / record::RECORD_SIZE < place {
-        return records.len();
-    }
-    record::RECORD_SIZE * place
+    record::RECORD_SIZE.saturating_mul(place).min(records.len())
 }
 
 // Where it ends, or where the bytes end.
@@ -23,10 +20,7 @@ pub fn end_of(records: &[u8], place: usize) -> usize
     ensures { result ≡ min (record_size * place + record_size) (length records.now) }
 {
     let from = start_of(records, place);
-    if records.len() - from < record::RECORD_SIZE {
-        return records.len();
-    }
-    from + record::RECORD_SIZE
+    from.saturating_add(record::RECORD_SIZE).min(records.len())
 }
 
 // A post at a place. Ruled out: another place's record changed; a place past the end taken.

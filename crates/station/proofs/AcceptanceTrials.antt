@@ -4,12 +4,12 @@ use mathlib.Core.Bool.{Bool, true, false, ◌&&◌}
 use mathlib.Core.List.{List, [], ◌∷◌, ◌++◌, flatten}
 use lib.Dec.{eqb}
 use Rattle.words.specs.Word.{word_bytes, word_of, word_at}
-use Rattle.words.specs.Run.{words, words_bytes}
+use Rattle.words.specs.Run.{bytes_as, words_as}
 use Rattle.words.specs.Scan.{every}
 use Rattle.frames.specs.Header.{header_of, header_follows, header_bytes}
 use Rattle.frames.specs.Message.{message_of, message_follows, message_fixed}
 use Rattle.frames.specs.Token.{numbers_in, numbered, requests_of, requests_follow, token_of, token_follows, token_fixed}
-use Rattle.frames.specs.Read.{blank_token, read_message, read_token, read_of}
+use Rattle.frames.specs.Read.{read_message, read_token, read_of}
 use Rattle.frames.specs.trials.Trials.{first_bytes}
 use Rattle.record.specs.Count.{every_from, those, numbers_after}
 use Rattle.record.specs.Held.{holds, held_numbers, held_with, cleared, cleared_from, let_go}
@@ -39,7 +39,7 @@ use Rattle.station.specs.trials.Trials.{calling, table}
 
 -- opens all that a row computes with
 unfoldable pub opened : List Trial → Bool
-unfolding flatten word_bytes word_of word_at words words_bytes every header_of header_follows header_bytes message_of message_follows message_fixed numbers_in numbered requests_of requests_follow token_of token_follows token_fixed blank_token read_message read_token read_of first_bytes every_from holds held_numbers held_with cleared cleared_from let_go posts_from queued taken ids_follow foundable this_ring token_members token_passes fresh_held members_placed fresh_log fresh_turn fresh_posts fresh held_in_range numbers_in_range log_in_range turn_in_range posts_in_range senders_are_members resend_passes marks_in_order arus_reached held_to_level next_not_held contents_padded free_places_zero log_unused_zero posts_unused_zero turn_unused_zero log_whole turn_whole posts_whole undelivered panel_right parts_whole whole first_token founded posted resent reached level_of raised frame_with take_while due delivered is_had log_with_message resend_ended message_heard others round_allowance others_backlog share allowance those requests repeats unanswered new_count with_sent numbers_after new_numbers highest' log_now sets_aru aru' blocker' stall' deaf safe' missing requests' broadcasts round' waits' backlog' next_in token' turn' log' rec' written accepted covers_held message_arrived token_arrived arrived frames_up_to frames_in senders_to loaded_with all_pass
+unfolding flatten word_bytes word_of word_at words_as bytes_as every header_of header_follows header_bytes message_of message_follows message_fixed numbers_in numbered requests_of requests_follow token_of token_follows token_fixed read_message read_token read_of first_bytes every_from holds held_numbers held_with cleared cleared_from let_go posts_from queued taken ids_follow foundable this_ring token_members token_passes fresh_held members_placed fresh_log fresh_turn fresh_posts fresh held_in_range numbers_in_range log_in_range turn_in_range posts_in_range senders_are_members resend_passes marks_in_order arus_reached held_to_level next_not_held contents_padded free_places_zero log_unused_zero posts_unused_zero turn_unused_zero log_whole turn_whole posts_whole undelivered panel_right parts_whole whole first_token founded posted resent reached level_of raised frame_with take_while due delivered is_had log_with_message resend_ended message_heard others round_allowance others_backlog share allowance those requests repeats unanswered new_count with_sent numbers_after new_numbers highest' log_now sets_aru aru' blocker' stall' deaf safe' missing requests' broadcasts round' waits' backlog' next_in token' turn' log' rec' written accepted covers_held message_arrived token_arrived arrived frames_up_to frames_in senders_to loaded_with all_pass
 opened rows = all_pass rows
 
 calling-pass : all_pass calling ≡ true

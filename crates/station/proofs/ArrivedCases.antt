@@ -15,7 +15,8 @@ use Rattle.frames.specs.declared.refusal.Refusal.{Refusal as Unread}
 use Rattle.frames.specs.declared.refusal.Refusal.TheVariants.{WrongLength as ReadLength, OtherKind as ReadKind, Malformed as ReadLayout}
 use Rattle.frames.specs.declared.message.Message.{Message}
 use Rattle.frames.specs.declared.token.Token.{Token}
-use Rattle.frames.specs.declared.reader.Reading.{Reading}
+use Rattle.std.specs.Prelude.{Result}
+use Rattle.frames.specs.declared.reader.Frame.{Frame}
 use Rattle.frames.proofs.Facts.{part}
 use Rattle.record.specs.Members.{is_member}
 use Rattle.record.specs.Ring.{current, ids, this_ring, token_members}
@@ -32,7 +33,7 @@ use Rattle.station.proofs.ReplyLaws.{asked}
 
 -- ---- what the reader says; the values follow the layout
 
-pub data ReadCase (s : List ℕ) (reading : Reading) : Type 0 where
+pub data ReadCase (s : List ℕ) (reading : Result Frame Unread) : Type 0 where
   unread : (why : Unread) → reading ≡ unread_as why → ReadCase s reading
   message : (m : Message) → reading ≡ a_message m → message_follows m (content_of s) ≡ true → ReadCase s reading
   token : (t : Token) → reading ≡ a_token t → token_follows t ≡ true → ReadCase s reading
@@ -46,7 +47,7 @@ module _ (s : List ℕ) where
   token-case true e = token (token_of s) refl (part e (λ (f : token_follows (token_of s) ≡ false). simp (f, and-false)))
   token-case false e = unread ReadLayout refl
 
-  kind-case : (exact a b : Bool) (x y : Reading) → ReadCase s x → ReadCase s y → ReadCase s (cond exact (cond a x (cond b y (unread_as ReadKind))) (unread_as ReadLength))
+  kind-case : (exact a b : Bool) (x y : Result Frame Unread) → ReadCase s x → ReadCase s y → ReadCase s (cond exact (cond a x (cond b y (unread_as ReadKind))) (unread_as ReadLength))
   kind-case true true b x y p q = p
   kind-case true false true x y p q = q
   kind-case true false false x y p q = unread ReadKind refl

@@ -5,8 +5,9 @@ use mathlib.Core.Bool.{Bool, true, false, false≢true, ◌&&◌}
 use mathlib.Core.List.{List, [], append-nil}
 use borrow.Author.Tests.{le-leb}
 use native.Mathlib.Omega.{arith}
-use lib.ListN.{length, replicate, drop_of_length-le, length-replicate}
+use lib.ListN.{length, drop_of_length-le, length-replicate}
 use lib.Dec.{leb}
+use Rattle.std.specs.Prelude.{Result, Err}
 use lib.Seq.{length-take-le}
 use Rattle.words.specs.Word.{word_at, word_of}
 use Rattle.frames.specs.Layout.{shortest_token}
@@ -29,22 +30,16 @@ use Rattle.station.specs.Post.{posted}
 use Rattle.station.specs.Resend.{resent}
 use Rattle.station.specs.Arrive.{arrived}
 use Rattle.station.specs.Over.{found_in, post_over, arrive_over, resend_over}
-use Rattle.station.specs.inner.Value.{lent_by, settled}
+use Rattle.station.specs.inner.Value.{zeros, lent_by, settled}
 use Rattle.station.specs.declared.refusal.Refusal.{Refusal}
 use Rattle.station.specs.declared.refusal.Refusal.TheVariants.{NoRoom, NotWhole, MemberCount, BadIds, NotAmong, BadRing}
 use Rattle.station.specs.declared.answer.Answer.{Answer}
-use Rattle.station.specs.declared.answer.Answer.TheVariants.{Refused}
-use Rattle.station.proofs.DoesLaws.{no-taken}
 use Rattle.station.proofs.ThereLaws.{not_taken}
 use Rattle.station.proofs.ReplyGood.{founded-good, founded-taken-whole, posted-good, resent-good}
 use Rattle.station.proofs.PostLaws.{posted-not-whole}
 use Rattle.station.proofs.ResendLaws.{resent-not-whole}
 use Rattle.station.proofs.ArriveLaws.{arrived-not-whole}
 use Rattle.station.proofs.ArrivedGood.{arrived-good}
-
--- the bytes that a call by value lends: at first all are zero
-abbrev zeros : List ℕ
-zeros = replicate record_size 0
 
 zeros-long : length zeros ≡ record_size
 zeros-long = length-replicate {A = ℕ} record_size 0
@@ -63,10 +58,10 @@ zeros-none = go (whole (lent zeros)) refl
         let none : (lent zeros).log.count ≡ 0 = ap (λ (r : Record). r.log.count) (lent_of zeros zeros-long) ∙ no-members in
         absurd (omega (arith, length-take-le (lent zeros).log.count (lent zeros).log.members (omega (arith, none)), none, some))
 
-module _ (r : Record) (a : Answer) (s' : List ℕ) where
+module _ (r : Record) (a : Result Answer Refusal) (s' : List ℕ) where
   -- where the call was refused, the record stays
-  stays : (why : Refusal) → a ≡ Refused why → settled r a s' ≡ record { answer = Refused why; rec = r }
-  stays why e = rw (e, no-taken why)
+  stays : (why : Refusal) → a ≡ Err why → settled r a s' ≡ record { answer = Err why; rec = r }
+  stays why e = rw e
 
   left : is_taken a ≡ true → settled r a s' ≡ record { answer = a; rec = record_of s' }
   left t = rw t
@@ -83,7 +78,7 @@ module _ (call : Record → Reply) (why : Refusal)
   there : whole r ≡ true → lent s ≡ r
   there w = let restored = record-restored r w in ap lent (own-bytes w) ∙ lent_of (record_bytes r) restored.1 ∙ restored.0
 
-  pub by_value : (a : Answer) (s' frames frames' deliveries deliveries' : List ℕ)
+  pub by_value : (a : Result Answer Refusal) (s' frames frames' deliveries deliveries' : List ℕ)
       → Does answered (call (lent s)) a s s' frames frames' deliveries deliveries'
       → (settled r a s' ≡ done_of (call r)) × (frames' ≡ followed_by (call r).frames frames) × (deliveries' ≡ followed_by (call r).deliveries deliveries)
   by_value a s' frames frames' deliveries deliveries' does = go (whole r) refl
@@ -108,7 +103,7 @@ module _ (call : Record → Reply) (why : Refusal)
           let d : Does answered (refused (lent s) why) a s s' frames frames' deliveries deliveries' = subst (λ (x : Reply). Does answered x a s s' frames frames' deliveries deliveries') not_there does in
           rw (none r w) (stays r a s' why d.answers, d.frames, d.deliveries)
 
-module _ (r : Record) (s s' : List ℕ) (lends : s ≡ lent_by r zeros) (a : Answer) where
+module _ (r : Record) (s s' : List ℕ) (lends : s ≡ lent_by r zeros) (a : Result Answer Refusal) where
   pub posted-by-value : (service : ℕ) (content : List ℕ)
       → Does answered (post_over s service content) a s s' [] [] [] []
       → settled r a s' ≡ done_of (posted r service content)
@@ -143,7 +138,7 @@ record Alike (a b : Reply) : Type 0 where
 module _ (r q : Record) where
   ask-alike : (question : Bool) (why : Refusal) (a b : Reply) → Alike a b → Alike (asks r question why a) (asks q question why b)
   ask-alike true why a b e = e
-  ask-alike false why a b e = record { answer = refl; frames = refl; rec = λ t. absurd (false≢true (sym (no-taken why) ∙ t)) }
+  ask-alike false why a b e = record { answer = refl; frames = refl; rec = λ t. absurd (false≢true t) }
 
   founded-alike : (room : Bool) (ids : List ℕ) (own ring : ℕ) → Alike (founded r room ids own ring) (founded q room ids own ring)
   unfolding founded
@@ -160,7 +155,7 @@ in-room ids own ring room =
     let long : leb record_size (length zeros) ≡ true = le-leb record_size (length zeros) (omega (arith, zeros-long)) in
     ap (λ (b : Bool). founded no_record (b && leb shortest_token room) ids own ring) long
 
-pub founded-by-value : (r : Record) (ids : List ℕ) (own ring : ℕ) (a : Answer) (s' token token' : List ℕ)
+pub founded-by-value : (r : Record) (ids : List ℕ) (own ring : ℕ) (a : Result Answer Refusal) (s' token token' : List ℕ)
     → Does answered (found_in zeros ids own ring (length token)) a zeros s' token token' [] []
     → (settled r a s' ≡ done_of (founded_on r (length token) ids own ring)) × (token' ≡ followed_by (founded_on r (length token) ids own ring).frames token)
 founded-by-value r ids own ring a s' token token' does =

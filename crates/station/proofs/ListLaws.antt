@@ -1,15 +1,12 @@
 -- A list of members in bytes: its ids, and how many the code reads.
-use Prim.Native.Nat.{ℕ, ◌*◌, ◌/◌, ◌%◌, ◌-◌, ◌<◌, ◌≤◌}
+use Prim.Native.Nat.{ℕ, ◌/◌, ◌%◌}
 use mathlib.Core.Path.{◌≡◌, refl, sym, ap, ◌∙◌}
-use mathlib.Core.Bool.{Bool, true, false, ◌&&◌, and-false, cond}
+use mathlib.Core.Bool.{Bool, true, false, ◌&&◌, and-false}
 use mathlib.Core.List.{List, [], ◌++◌}
-use borrow.Author.Tests.{leb-true, le-leb, lt-leb, eq-eqb, ne_eqb}
-use native.Mathlib.Nat.{sub-zero}
-use native.Mathlib.Omega.{arith}
 use lib.ListN.{length, take}
 use lib.Dec.{leb, eqb}
 use lib.Seq.{take_at}
-use Rattle.words.specs.Run.{words}
+use Rattle.words.specs.Run.{words, words_as}
 use Rattle.words.proofs.RunLaws.{length-words}
 use Rattle.frames.specs.Layout.{shortest_token}
 use Rattle.record.specs.Size.{most_members}
@@ -37,7 +34,7 @@ pub data Listed (s : List ℕ) : Type 0 where
   refused-alike : members_counted (ids_in s) ≡ false → members_counted (words 2 (listed_count s) s) ≡ false → Listed s
 
 listed : (s : List ℕ) → Listed s
-unfolding words
+unfolding words_as
 listed s = go (eqb (length s % 2) 0) (leb (length s / 2) most_members) refl refl
   where
     go : (even few : Bool) → eqb (length s % 2) 0 ≡ even → leb (length s / 2) most_members ≡ few → Listed s
@@ -56,30 +53,10 @@ same-founding r room s own ring =
       | refused-alike e f ↦ rw (e, f)
     ]
 
-pub over-listed : (s members ids : List ℕ) (n own ring room : ℕ) → n ≡ listed_count members → ids ≡ words 2 n members → found_over s members own ring room ≡ found_in s ids own ring room
+pub over_listed : (s members ids : List ℕ) (n own ring room : ℕ) → n ≡ listed_count members → ids ≡ words 2 n members → found_over s members own ring room ≡ found_in s ids own ring room
 unfolding found_in
-over-listed s members ids n own ring room counts are = same-founding no_record _ members own ring ∙ ap (λ (xs : List ℕ). founded no_record (leb record_size (length s) && leb shortest_token room) xs own ring) (sym (are ∙ ap (λ k. words 2 k members) counts))
+over_listed s members ids n own ring room counts are = same-founding no_record _ members own ring ∙ ap (λ (xs : List ℕ). founded no_record (leb record_size (length s) && leb shortest_token room) xs own ring) (sym (are ∙ ap (λ k. words 2 k members) counts))
 
 -- the part of the array that was read
-pub ids-read : (s ids rest : List ℕ) (n : ℕ) → ids ≡ words 2 n s ++ rest → take (n - 0) ids ≡ words 2 n s
-ids-read s ids rest n e = rw (e, sub-zero) (take_at (words 2 n s) rest n (length-words 2 n s))
-
--- as the code counts them
-module _ (s : List ℕ) where
-  pub count-odd : (length s ≡ 2 * (length s / 2) → ⊥) → 0 ≡ listed_count s
-  count-odd odd = rw (ne_eqb (length s % 2) 0 (λ e. odd (omega arith)))
-
-  pub count-many : most_members < length s / 2 → 0 ≡ listed_count s
-  count-many many = rw (lt-leb (length s / 2) most_members many, and-false)
-
-  pub count-even : length s ≡ 2 * (length s / 2) → length s / 2 ≤ most_members → length s / 2 ≡ listed_count s
-  count-even even few = rw (eq-eqb (length s % 2) 0 (omega arith), le-leb (length s / 2) most_members few)
-
--- they are there, and have their places
-pub count_fits : (s : List ℕ) → (2 * listed_count s ≤ length s) × (listed_count s ≤ most_members)
-count_fits s = go (eqb (length s % 2) 0) (leb (length s / 2) most_members) refl
-  where
-    go : (even few : Bool) → leb (length s / 2) most_members ≡ few → (2 * cond (even && few) (length s / 2) 0 ≤ length s) × (cond (even && few) (length s / 2) 0 ≤ most_members)
-    go true true f = (omega arith, leb-true (length s / 2) most_members f)
-    go true false f = (omega arith, omega arith)
-    go false few f = (omega arith, omega arith)
+pub ids_read : (s ids rest : List ℕ) (n : ℕ) → ids ≡ words 2 n s ++ rest → take n ids ≡ words 2 n s
+ids_read s ids rest n e = rw e (take_at (words 2 n s) rest n (length-words 2 n s))

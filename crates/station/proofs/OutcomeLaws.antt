@@ -1,15 +1,18 @@
--- The outcome fixes the answer.
+-- The outcome fixes the answer; its refusal's number says whether the call was taken.
 use Prim.Native.Nat.{ℕ}
 use mathlib.Core.Path.{◌≡◌, refl, sym, ap, ◌∙◌}
 use mathlib.Core.Bool.{cond}
+use borrow.Author.Tests.{ne_eqb}
 use lib.Dec.{eqb}
+use Rattle.std.specs.Prelude.{Result, Ok, Err}
 use Rattle.station.specs.Refusal.{refusal_number}
-use Rattle.station.specs.Answer.{outcome_of, OutcomeFixes}
+use Rattle.station.specs.Answer.{outcome_of, TakenByNumber, OutcomeFixes}
 use Rattle.station.specs.declared.refusal.Refusal.{Refusal}
 use Rattle.station.specs.declared.refusal.Refusal.TheVariants.{NoRoom, NotWhole, MemberCount, BadIds, NotAmong, BadRing, LongContent, OtherService, PostsFull, WrongLength, OtherKind, Malformed, OtherRing, NotMember, OtherAddressee, OldToken, LastToken, BelowHeld, NothingToResend}
 use Rattle.station.specs.declared.answer.Answer.{Answer}
-use Rattle.station.specs.declared.answer.Answer.TheVariants.{Refused, Founded, Posted, Kept, Had, Ahead, Accepted, Resent}
+use Rattle.station.specs.declared.answer.Answer.TheVariants.{Founded, Posted, Kept, Had, Ahead, Accepted, Resent}
 use Rattle.station.specs.declared.answer.Outcome.{Outcome}
+use Rattle.station.proofs.RefusalLaws.{some_number}
 
 -- the refusal that a number is of
 named : ℕ → Refusal
@@ -57,27 +60,37 @@ named-number BelowHeld = refl
 named-number NothingToResend = refl
 
 -- the answer that an outcome is of
-answer_of : Outcome → Answer
+answer_of : Outcome → Result Answer Refusal
 answer_of o =
-    cond (eqb o.outcome 0) (Refused (named o.refusal))
-    (cond (eqb o.outcome 1) Founded
-    (cond (eqb o.outcome 2) Posted
-    (cond (eqb o.outcome 3) (Kept o.deliveries)
-    (cond (eqb o.outcome 4) (Had o.deliveries)
-    (cond (eqb o.outcome 5) (Ahead o.deliveries)
-    (cond (eqb o.outcome 6) (Accepted o.frames o.deliveries o.deaf)
-    (Resent o.frames)))))))
+    cond (eqb o.outcome 0) (Err (named o.refusal))
+    (cond (eqb o.outcome 1) (Ok Founded)
+    (cond (eqb o.outcome 2) (Ok Posted)
+    (cond (eqb o.outcome 3) (Ok (Kept o.deliveries))
+    (cond (eqb o.outcome 4) (Ok (Had o.deliveries))
+    (cond (eqb o.outcome 5) (Ok (Ahead o.deliveries))
+    (cond (eqb o.outcome 6) (Ok (Accepted o.frames o.deliveries o.deaf))
+    (Ok (Resent o.frames))))))))
 
-answer_back : (a : Answer) → answer_of (outcome_of a) ≡ a
+answer_back : (a : Result Answer Refusal) → answer_of (outcome_of a) ≡ a
 unfolding answer_of
-answer_back (Refused why) = ap (λ (w : Refusal). Refused w) (named-number why)
-answer_back Founded = refl
-answer_back Posted = refl
-answer_back (Kept n) = refl
-answer_back (Had n) = refl
-answer_back (Ahead n) = refl
-answer_back (Accepted frames deliveries deaf) = refl
-answer_back (Resent n) = refl
+answer_back (Err why) = ap (λ (w : Refusal). Err w) (named-number why)
+answer_back (Ok Founded) = refl
+answer_back (Ok Posted) = refl
+answer_back (Ok (Kept n)) = refl
+answer_back (Ok (Had n)) = refl
+answer_back (Ok (Ahead n)) = refl
+answer_back (Ok (Accepted frames deliveries deaf)) = refl
+answer_back (Ok (Resent n)) = refl
 
 pub outcome-fixes : OutcomeFixes
 outcome-fixes a b e = sym (answer_back a) ∙ ap answer_of e ∙ answer_back b
+
+pub taken-by-number : TakenByNumber
+taken-by-number (Err why) = sym (ne_eqb (refusal_number why) 0 (some_number why))
+taken-by-number (Ok Founded) = refl
+taken-by-number (Ok Posted) = refl
+taken-by-number (Ok (Kept n)) = refl
+taken-by-number (Ok (Had n)) = refl
+taken-by-number (Ok (Ahead n)) = refl
+taken-by-number (Ok (Accepted frames deliveries deaf)) = refl
+taken-by-number (Ok (Resent n)) = refl

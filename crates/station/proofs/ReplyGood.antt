@@ -1,12 +1,13 @@
 -- What holds of every reply, call by call.
 use Prim.Native.Nat.{ℕ, ◌≤◌, ◌<◌}
-use mathlib.Core.Path.{◌≡◌, refl, sym, ap}
-use mathlib.Core.Bool.{Bool, true}
+use mathlib.Core.Path.{◌≡◌, refl, sym, ap, ◌∙◌}
+use mathlib.Core.Bool.{Bool, true, false≢true}
 use mathlib.Core.List.{List, [], ◌∷◌, ◌++◌}
-use borrow.Author.Tests.{leb-true, ltb-true, eqb-true}
+use borrow.Author.Tests.{leb-true, ltb-true}
 use native.Mathlib.Omega.{arith}
 use lib.ListN.{length}
 use lib.Dec.{leb, ltb}
+use Rattle.std.specs.Prelude.{Result, Ok}
 use lib.Seq.{length-take-le}
 use Rattle.frames.specs.Layout.{most_service, most_content}
 use Rattle.frames.specs.Token.{token_bytes}
@@ -22,8 +23,7 @@ use Rattle.record.proofs.FreshLaws.{fresh-whole}
 use Rattle.record.proofs.PostLaws.{post-sizes, waiting-queued}
 use Rattle.record.proofs.PostsWhole.{queued-in-range, queued-unused-zero}
 use Rattle.record.proofs.WholeFacts.{whole-good, good-whole}
-use Rattle.station.specs.Refusal.{refusal_number}
-use Rattle.station.specs.Answer.{outcome_of, is_taken}
+use Rattle.station.specs.Answer.{is_taken}
 use Rattle.station.specs.Reply.{Reply, refused, asks}
 use Rattle.visit.specs.Output.{most_frames}
 use Rattle.station.specs.Found.{first_token, founded}
@@ -33,8 +33,7 @@ use Rattle.station.specs.EveryReply.{Counted, KeepsWhole, Good, FoundedGood, Pos
 use Rattle.station.specs.declared.refusal.Refusal.{Refusal}
 use Rattle.station.specs.declared.refusal.Refusal.TheVariants.{NoRoom, NotWhole, MemberCount, BadIds, NotAmong, BadRing, LongContent, OtherService, PostsFull, NothingToResend}
 use Rattle.station.specs.declared.answer.Answer.{Answer}
-use Rattle.station.specs.declared.answer.Answer.TheVariants.{Refused, Founded, Posted, Resent}
-use Rattle.station.proofs.RefusalLaws.{some_number}
+use Rattle.station.specs.declared.answer.Answer.TheVariants.{Founded, Posted, Resent}
 use Rattle.station.proofs.ReplyLaws.{asked}
 use Rattle.station.proofs.FoundLaws.{foundable-when, first-length}
 
@@ -45,7 +44,7 @@ module _ (P : Reply → Type 0) (r : Record) (refuses : (why : Refusal) → P (r
   ask question why rest = asked P r question why rest (refuses why)
 
   pub founded-either : (room : Bool) (ids : List ℕ) (own ring : ℕ)
-      → (foundable ids own ring ≡ true → P (record { answer = Founded; rec = fresh ids own ring; frames = token_bytes (first_token ids ring); deliveries = [] }))
+      → (foundable ids own ring ≡ true → P (record { answer = Ok Founded; rec = fresh ids own ring; frames = token_bytes (first_token ids ring); deliveries = [] }))
       → P (founded r room ids own ring)
   unfolding founded
   founded-either room ids own ring taken =
@@ -58,7 +57,7 @@ module _ (P : Reply → Type 0) (r : Record) (refuses : (why : Refusal) → P (r
 
   pub posted-either : (service : ℕ) (content : List ℕ)
       → (whole r ≡ true → length content ≤ most_content → service ≤ most_service → r.posts.count < most_posts
-      → P (record { answer = Posted; rec = with_post r service content; frames = []; deliveries = [] }))
+      → P (record { answer = Ok Posted; rec = with_post r service content; frames = []; deliveries = [] }))
       → P (posted r service content)
   unfolding posted
   posted-either service content taken =
@@ -69,7 +68,7 @@ module _ (P : Reply → Type 0) (r : Record) (refuses : (why : Refusal) → P (r
       taken w (leb-true _ _ short) (leb-true _ _ known) (ltb-true _ _ room)))))
 
   pub resent-either : (room : ℕ)
-      → (whole r ≡ true → P (record { answer = Resent r.turn.size; rec = r; frames = remembered r.turn; deliveries = [] }))
+      → (whole r ≡ true → P (record { answer = Ok (Resent r.turn.size); rec = r; frames = remembered r.turn; deliveries = [] }))
       → P (resent r room)
   unfolding resent
   resent-either room taken =
@@ -78,29 +77,26 @@ module _ (P : Reply → Type 0) (r : Record) (refuses : (why : Refusal) → P (r
       ask (may_resend r.turn) NothingToResend _ (λ leave.
       taken w)))
 
--- ---- refusals are good; an answer with an outcome is no refusal
+-- ---- refusals are good; an answer that was taken is no refusal
 
 pub refused-good : (r : Record) (why : Refusal) → Good r (refused r why)
-refused-good r why = ((λ again e. ap (λ (a : Answer). record { answer = a; rec = r; frames = []; deliveries = [] }) e), (refl, refl), (λ w. w))
+refused-good r why = ((λ again e. ap (λ (a : Result Answer Refusal). record { answer = a; rec = r; frames = []; deliveries = [] }) e), (refl, refl), (λ w. w))
 
-no-refusal : (a : Answer) (why : Refusal) → 0 < (outcome_of a).outcome → a ≡ Refused why → ⊥
-no-refusal a why some e = let none : (outcome_of a).outcome ≡ 0 = ap (λ (b : Answer). (outcome_of b).outcome) e in omega arith
-
-pub taken-good : (r : Record) (reply : Reply) → 0 < (outcome_of reply.answer).outcome → Counted reply → KeepsWhole r reply → Good r reply
-taken-good r reply some counted keeps = ((λ why e. absurd (no-refusal reply.answer why some e)), counted, keeps)
+pub taken-good : (r : Record) (reply : Reply) → is_taken reply.answer ≡ true → Counted reply → KeepsWhole r reply → Good r reply
+taken-good r reply taken counted keeps = ((λ why e. absurd (false≢true (sym (ap is_taken e) ∙ taken))), counted, keeps)
 
 -- ---- founding
 
 pub founded-good : FoundedGood
 founded-good r room ids own ring =
     founded-either (Good r) r (refused-good r) room ids own ring
-    (λ e. taken-good r _ (omega arith) (sym (first-length ids ring), refl) (λ w. fresh-whole ids own ring e))
+    (λ e. taken-good r _ refl (sym (first-length ids ring), refl) (λ w. fresh-whole ids own ring e))
 
 pub founded-whole : FoundedWhole
 founded-whole r room ids own ring =
-    founded-either (λ reply. reply.answer ≡ Founded → whole reply.rec ≡ true)
+    founded-either (λ reply. reply.answer ≡ Ok Founded → whole reply.rec ≡ true)
     r
-    (λ why e. absurd (no-refusal Founded why (omega arith) (sym e)))
+    (λ why e. cc)
     room
     ids
     own
@@ -111,7 +107,7 @@ pub founded-taken-whole : (r : Record) (room : Bool) (ids : List ℕ) (own ring 
 founded-taken-whole r room ids own ring =
     founded-either (λ reply. is_taken reply.answer ≡ true → whole reply.rec ≡ true)
     r
-    (λ why t. absurd (some_number why (eqb-true (refusal_number why) 0 t)))
+    (λ why t. absurd (false≢true t))
     room
     ids
     own
@@ -143,13 +139,13 @@ module _ (r : Record) (service : ℕ) (content : List ℕ) (w : whole r ≡ true
 pub posted-good : PostedGood
 posted-good r service content =
     posted-either (Good r) r (refused-good r) service content
-    (λ w short known room. taken-good r _ (omega arith) (refl, refl) (λ again. with-post-whole r service content w short room known))
+    (λ w short known room. taken-good r _ refl (refl, refl) (λ again. with-post-whole r service content w short room known))
 
 pub posted-one : PostedOne
 posted-one r service content =
-    posted-either (λ reply. reply.answer ≡ Posted → waiting reply.rec.posts ≡ waiting r.posts ++ (record { service = service; content = content } ∷ []))
+    posted-either (λ reply. reply.answer ≡ Ok Posted → waiting reply.rec.posts ≡ waiting r.posts ++ (record { service = service; content = content } ∷ []))
     r
-    (λ why e. absurd (no-refusal Posted why (omega arith) (sym e)))
+    (λ why e. cc)
     service
     content
     (λ w short known room answer. with-post-one r service content w short room)
@@ -163,4 +159,4 @@ remembered-long r w =
 
 pub resent-good : ResentGood
 resent-good r room =
-    resent-either (Good r) r (refused-good r) room (λ w. taken-good r _ (omega arith) (sym (remembered-long r w), refl) (λ again. w))
+    resent-either (Good r) r (refused-good r) room (λ w. taken-good r _ refl (sym (remembered-long r w), refl) (λ again. w))

@@ -3,10 +3,10 @@ use Prim.Native.Nat.{ℕ}
 use mathlib.Core.Path.{◌≡◌, refl, sym, ◌∙◌, ap}
 use mathlib.Core.Bool.{Bool, true, false, false≢true, ◌&&◌}
 use mathlib.Core.List.{List, append-nil}
-use borrow.Author.Tests.{eqb-true}
 use native.Mathlib.Omega.{arith}
 use lib.ListN.{length, drop_of_length-le}
 use lib.Dec.{leb}
+use Rattle.std.specs.Prelude.{Result, Ok, Err}
 use Rattle.record.specs.Layout.{record_size}
 use Rattle.record.specs.Whole.{whole}
 use Rattle.record.specs.Bytes.{record_bytes}
@@ -15,7 +15,6 @@ use Rattle.record.specs.declared.Record.{Record}
 use Rattle.record.proofs.LentLaws.{lent_of}
 use Rattle.record.proofs.RoundTrip.{record-restored}
 use Rattle.visit.specs.Output.{most_frames, most_deliveries}
-use Rattle.station.specs.Refusal.{refusal_number}
 use Rattle.station.specs.Answer.{is_taken}
 use Rattle.station.specs.Reply.{Reply, asks, station_after}
 use Rattle.station.specs.EveryReply.{Good}
@@ -26,28 +25,20 @@ use Rattle.station.specs.Over.{found_in, found_over, post_over, arrive_over, res
 use Rattle.station.specs.declared.refusal.Refusal.{Refusal}
 use Rattle.station.specs.declared.refusal.Refusal.TheVariants.{NoRoom, NotWhole}
 use Rattle.station.specs.declared.answer.Answer.{Answer}
-use Rattle.station.specs.declared.answer.Answer.TheVariants.{Refused, Founded, Posted, Kept, Had, Ahead, Accepted, Resent}
-use Rattle.station.proofs.RefusalLaws.{some_number}
 use Rattle.station.proofs.LentLaws.{whole_long}
 use Rattle.station.proofs.ReplyGood.{posted-good, resent-good, founded-whole}
 use Rattle.station.proofs.ArrivedGood.{arrived-good}
 
 -- a call that isn't taken is refused
-pub not_taken : (a : Answer) → is_taken a ≡ false → (why : Refusal) × (a ≡ Refused why)
-not_taken (Refused why) e = (why, refl)
-not_taken Founded e = absurd (false≢true (sym e))
-not_taken Posted e = absurd (false≢true (sym e))
-not_taken (Kept n) e = absurd (false≢true (sym e))
-not_taken (Had n) e = absurd (false≢true (sym e))
-not_taken (Ahead n) e = absurd (false≢true (sym e))
-not_taken (Accepted frames deliveries deaf) e = absurd (false≢true (sym e))
-not_taken (Resent n) e = absurd (false≢true (sym e))
+pub not_taken : (a : Result Answer Refusal) → is_taken a ≡ false → (why : Refusal) × (a ≡ Err why)
+not_taken (Err why) e = (why, refl)
+not_taken (Ok what) e = absurd (false≢true (sym e))
 
 -- ---- a posting, an arrival or a resending that is taken was made on a whole record, so on a record's length
 
 asks-taken : (r : Record) (question : Bool) (why : Refusal) (rest : Reply) → is_taken (asks r question why rest).answer ≡ true → question ≡ true
 asks-taken r true why rest e = refl
-asks-taken r false why rest e = absurd (some_number why (eqb-true (refusal_number why) 0 e))
+asks-taken r false why rest e = absurd (false≢true e)
 
 pub post-whole : (r : Record) (service : ℕ) (content : List ℕ) → is_taken (posted r service content).answer ≡ true → whole r ≡ true
 unfolding posted

@@ -1,5 +1,5 @@
 -- Arrival of a frame. [document 01, Questions at the door: 1, 2, 10 to 18]
-use Rattle.std.specs.Prelude.{ℕ, ◌&&◌, List, [], leb, ltb, eqb}
+use Rattle.std.specs.Prelude.{ℕ, ◌&&◌, List, [], leb, ltb, eqb, Result, Ok, Err}
 use Rattle.frames.specs.Number.{most_number}
 use Rattle.frames.specs.Message.{content_of}
 use Rattle.frames.specs.Read.{read_of}
@@ -7,8 +7,8 @@ use Rattle.frames.specs.declared.refusal.Refusal.{Refusal as Unread}
 use Rattle.frames.specs.declared.refusal.Refusal.TheVariants.{NoRoom as NoRoomToWrite, WrongLength as ReadLength, OtherKind as ReadKind, Malformed as ReadLayout}
 use Rattle.frames.specs.declared.message.Message.{Message}
 use Rattle.frames.specs.declared.token.Token.{Token}
-use Rattle.frames.specs.declared.reader.Reading.{Reading}
-use Rattle.frames.specs.declared.reader.Answer.TheVariants.{Refused as Unreadable, IsMessage, IsToken}
+use Rattle.frames.specs.declared.reader.Frame.{Frame}
+use Rattle.frames.specs.declared.reader.Frame.TheVariants.{Message as IsMessage, Token as IsToken}
 use Rattle.record.specs.Members.{is_member}
 use Rattle.record.specs.Ring.{current, ids, this_ring, token_members}
 use Rattle.record.specs.Whole.{whole}
@@ -42,7 +42,7 @@ heard_answer IsKept n = Kept n
 unfoldable pub message_heard : Record → Message → List ℕ → Reply
 message_heard r m content =
     record {
-      answer = heard_answer (heard_of r m content).how (heard_of r m content).size;
+      answer = Ok (heard_answer (heard_of r m content).how (heard_of r m content).size);
       rec = rec_heard r m content;
       frames = [];
       deliveries = handed_heard r m content;
@@ -52,7 +52,7 @@ message_heard r m content =
 unfoldable pub accepted : Visit → Reply
 accepted v =
     record {
-      answer = Accepted (visited_of v).frames (visited_of v).deliveries (visited_of v).deaf;
+      answer = Ok (Accepted (visited_of v).frames (visited_of v).deliveries (visited_of v).deaf);
       rec = rec' v;
       frames = joined (written v);
       deliveries = handed v;
@@ -77,13 +77,10 @@ token_arrived r t =
     (accepted (visit r t)))))))
 
 -- by what the reader says
-abbrev pub frame_arrived : Record → List ℕ → Reading → Reply
-frame_arrived r frame reading =
-    elim reading.answer [
-      | Unreadable why ↦ refused r (reader_refusal why)
-      | IsMessage m ↦ message_arrived r m (content_of frame)
-      | IsToken ↦ token_arrived r reading.token
-    ]
+abbrev pub frame_arrived : Record → List ℕ → Result Frame Unread → Reply
+frame_arrived r frame (Err why) = refused r (reader_refusal why)
+frame_arrived r frame (Ok (IsMessage m)) = message_arrived r m (content_of frame)
+frame_arrived r frame (Ok (IsToken t)) = token_arrived r t
 
 -- `frames` and `deliveries`: the lengths of the two buffers
 unfoldable pub arrived : Record → List ℕ → ℕ → ℕ → Reply

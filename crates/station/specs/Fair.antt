@@ -1,8 +1,9 @@
 -- Busy posts get their turn: of any record, whole or not, any bytes and buffers of any length, where a token is accepted while a post waits.
 -- [document 02, Job 1]
-use Rattle.std.specs.Prelude.{ℕ, ◌+◌, ◌-◌, ◌<◌, ◌≤◌, ◌≡◌, List, length}
+use Rattle.std.specs.Prelude.{ℕ, ◌+◌, ◌-◌, ◌<◌, ◌≤◌, ◌≡◌, List, length, Ok}
 use Rattle.frames.specs.Number.{most_number}
-use Rattle.frames.specs.Read.{read_of}
+use Rattle.frames.specs.Read.{read_of, a_token}
+use Rattle.frames.specs.declared.token.Token.{Token}
 use Rattle.record.specs.Size.{most_held}
 use Rattle.record.specs.declared.Record.{Record}
 use Rattle.visit.specs.Visit.{Visit, log, waits, round_allowance, others_backlog, share, repeats}
@@ -26,8 +27,9 @@ pub record FairlySent (v : Visit) (n : ℕ) : Type 0 where
   pub most : n ≤ share (others_backlog v) (waits v) - length (repeats v)
   pub least : length (repeats v) ≡ 0 → OneAllowed v → 1 ≤ n
 
+-- such an arrival is of a token
 abbrev pub ArrivedFair : Type 0
 ArrivedFair = (r : Record) (frame : List ℕ) (frames deliveries written handed deaf : ℕ)
-    → (arrived r frame frames deliveries).answer ≡ Accepted written handed deaf
+    → (arrived r frame frames deliveries).answer ≡ Ok (Accepted written handed deaf)
     → 0 < r.posts.count
-    → FairlySent (visit r (read_of frame).token) (newly_sent r (arrived r frame frames deliveries))
+    → (t : Token) × (read_of frame ≡ a_token t) × FairlySent (visit r t) (newly_sent r (arrived r frame frames deliveries))

@@ -1,8 +1,7 @@
 -- Founding. [document 01, The station record; Questions at the door: 1, 3 to 6]
-use Rattle.std.specs.Prelude.{ℕ, Bool, List, [], replicate, leb}
+use Rattle.std.specs.Prelude.{ℕ, Bool, List, [], replicate, leb, None, Ok}
 use Rattle.frames.specs.Layout.{most_requests, shortest_token}
 use Rattle.frames.specs.Token.{token_bytes}
-use Rattle.frames.specs.declared.token.Blocker.TheVariants.{Nobody}
 use Rattle.frames.specs.declared.token.Token.{Token}
 use Rattle.record.specs.Members.{representative, members_counted, ids_follow, own_among, ring_in_range}
 use Rattle.record.specs.Fresh.{fresh}
@@ -20,7 +19,7 @@ first_token ids ring =
       number = record { 0 = 1 };
       highest = record { 0 = 0 };
       aru = record { 0 = 0 };
-      blocker = Nobody;
+      blocker = None;
       round = 0;
       backlog = 0;
       count = 0;
@@ -36,7 +35,7 @@ founded r room ids own ring =
     (asks r (own_among ids own) NotAmong
     (asks r (ring_in_range ring) BadRing
     (record {
-      answer = Founded;
+      answer = Ok Founded;
       rec = fresh ids own ring;
       frames = token_bytes (first_token ids ring);
       deliveries = [];

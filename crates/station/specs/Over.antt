@@ -1,6 +1,6 @@
 -- The calls on lent bytes: a record is bytes of the documented layout, a list of members is two bytes an id. Each is the call's own
 -- definition on the record in those bytes. [document 01, The station and its neighbours]
-use Rattle.std.specs.Prelude.{ℕ, ◌/◌, ◌%◌, ◌≡◌, ◌&&◌, cond, List, [], length, leb, eqb}
+use Rattle.std.specs.Prelude.{ℕ, ◌/◌, ◌%◌, ◌≡◌, ◌&&◌, cond, List, [], length, leb, eqb, Ok}
 use Rattle.words.specs.Run.{words}
 use Rattle.frames.specs.Layout.{shortest_token}
 use Rattle.record.specs.Layout.{record_size}
@@ -52,5 +52,5 @@ ResentThere = (s : List ℕ) (room : ℕ) → lent (station_after (resend_over s
 abbrev pub FoundedThere : Type 0
 FoundedThere = (s members : List ℕ) (own ring room : ℕ)
     → length s ≡ record_size
-    → (found_over s members own ring room).answer ≡ Founded
+    → (found_over s members own ring room).answer ≡ Ok Founded
     → lent (station_after (found_over s members own ring room) s) ≡ (found_over s members own ring room).rec

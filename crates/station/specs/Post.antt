@@ -1,5 +1,5 @@
 -- Posting. [document 01, Questions at the door: 2, 7 to 9]
-use Rattle.std.specs.Prelude.{ℕ, List, [], length, leb, ltb}
+use Rattle.std.specs.Prelude.{ℕ, List, [], length, leb, ltb, Ok}
 use Rattle.frames.specs.Layout.{most_service, most_content}
 use Rattle.record.specs.Size.{most_posts}
 use Rattle.record.specs.Parts.{with_posts}
@@ -20,4 +20,4 @@ posted r service content =
     (asks r (leb (length content) most_content) LongContent
     (asks r (leb service most_service) OtherService
     (asks r (ltb r.posts.count most_posts) PostsFull
-    (record { answer = Posted; rec = with_post r service content; frames = []; deliveries = [] }))))
+    (record { answer = Ok Posted; rec = with_post r service content; frames = []; deliveries = [] }))))

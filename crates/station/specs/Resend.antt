@@ -1,6 +1,6 @@
 -- Resending: the remembered token is written out again, and the record stays as it is. [document 01, A token is accepted; Questions
 -- at the door: 1, 2, 19]
-use Rattle.std.specs.Prelude.{ℕ, [], leb}
+use Rattle.std.specs.Prelude.{ℕ, [], leb, Ok}
 use Rattle.record.specs.Turn.{may_resend, remembered}
 use Rattle.record.specs.Whole.{whole}
 use Rattle.record.specs.declared.Record.{Record}
@@ -15,4 +15,4 @@ resent r room =
     asks r (leb most_frames room) NoRoom
     (asks r (whole r) NotWhole
     (asks r (may_resend r.turn) NothingToResend
-    (record { answer = Resent r.turn.size; rec = r; frames = remembered r.turn; deliveries = [] })))
+    (record { answer = Ok (Resent r.turn.size); rec = r; frames = remembered r.turn; deliveries = [] })))

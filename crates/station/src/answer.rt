@@ -1,13 +1,12 @@
 // What a call answers, and the same in document 01's numbers.
 ghost use Rattle.std.specs.Prelude.{◌≡◌};
-ghost use Rattle.station.specs.Answer.{happened, outcome_of, is_taken};
+ghost use Rattle.station.specs.Answer.{happened, outcome_of};
 
-use crate::refusal;
 use crate::refusal::Refusal;
 
-#[derive(Clone, Copy)]
+// What happened, where no question was answered 'no'.
+#[derive(Clone, Copy, Debug, PartialEq, Eq)]
 pub enum Answer {
-    Refused(Refusal),
     // The ring's first token is written out.
     Founded,
     Posted,
@@ -16,7 +15,8 @@ pub enum Answer {
     Had(u16),
     Ahead(u16),
     // A token arrived and was accepted: the bytes written for the cable, the bytes delivered, and the id
-    // in the notice 'deaf', or 0.
+    // in the notice 'deaf', or 0: a number, since by theorem OutcomeFixes no two answers have the same numbers, and
+    // `Some(0)` would have those of `None`.
     Accepted {
         frames: u16,
         deliveries: u16,
@@ -28,7 +28,7 @@ pub enum Answer {
 
 // The answer in numbers, as hosts in C get it.
 #[repr(C)]
-#[derive(Clone, Copy)]
+#[derive(Clone, Copy, Debug, PartialEq, Eq)]
 pub struct Outcome {
     // The question that was answered 'no', or 0.
     pub refusal: u16,
@@ -55,35 +55,32 @@ fn happened(outcome: u16, frames: u16, deliveries: u16, deaf: u16) -> Outcome
     }
 }
 
-// Was no question answered 'no'? Ruled out: a refusal taken for an outcome; an outcome for a refusal.
-pub fn is_taken(a: Answer) -> bool
-    ensures { result ≡ is_taken a }
-{
-    outcome_of(a).refusal == 0
-}
-
 // Ruled out: a count with a refusal; a refusal that reads like an outcome.
-pub fn outcome_of(a: Answer) -> Outcome
-    ensures { result ≡ outcome_of a }
-{
-    match a {
-        Answer::Refused(why) => Outcome {
-            refusal: refusal::refusal_number(why),
-            outcome: 0,
-            frames: 0,
-            deliveries: 0,
-            deaf: 0,
-        },
-        Answer::Founded => happened(1, frames::SHORTEST_TOKEN as u16, 0, 0),
-        Answer::Posted => happened(2, 0, 0, 0),
-        Answer::Kept(n) => happened(3, 0, n, 0),
-        Answer::Had(n) => happened(4, 0, n, 0),
-        Answer::Ahead(n) => happened(5, 0, n, 0),
-        Answer::Accepted {
-            frames,
-            deliveries,
-            deaf,
-        } => happened(6, frames, deliveries, deaf),
-        Answer::Resent(n) => happened(7, n as u16, 0, 0),
+impl From<Result<Answer, Refusal>> for Outcome {
+    ghost from_gives = { λ a o. o ≡ outcome_of a };
+
+    fn from(a: Result<Answer, Refusal>) -> Outcome {
+        match a {
+            Err(why) => Outcome {
+                refusal: u16::from(why),
+                outcome: 0,
+                frames: 0,
+                deliveries: 0,
+                deaf: 0,
+            },
+            Ok(Answer::Founded) => happened(1, frames::SHORTEST_TOKEN as u16, 0, 0),
+            Ok(Answer::Posted) => happened(2, 0, 0, 0),
+            Ok(Answer::Kept(n)) => happened(3, 0, n, 0),
+            Ok(Answer::Had(n)) => happened(4, 0, n, 0),
+            Ok(Answer::Ahead(n)) => happened(5, 0, n, 0),
+            Ok(
+                Answer::Accepted {
+                    frames,
+                    deliveries,
+                    deaf,
+                },
+            ) => happened(6, frames, deliveries, deaf),
+            Ok(Answer::Resent(n)) => happened(7, n as u16, 0, 0),
+        }
     }
 }

@@ -10,13 +10,12 @@ mod founding;
 mod posting;
 mod refusal;
 mod resending;
-mod room;
 
-pub use answer::{Answer, Outcome, outcome_of};
+pub use answer::{Answer, Outcome};
 pub use arriving::{arrive_in, arrive_step};
 pub use calls::{arrive, found, post, resend};
 pub use done::Done;
 pub use founding::{found_ids_in, found_in, found_step};
 pub use posting::{post_in, post_step};
-pub use refusal::{Refusal, refusal_number};
+pub use refusal::Refusal;
 pub use resending::{resend_in, resend_step};

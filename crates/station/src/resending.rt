@@ -6,40 +6,30 @@ ghost use Rattle.station.specs.Resend.{resent};
 ghost use Rattle.station.specs.Over.{resend_over};
 
 use crate::answer::Answer;
+use crate::done;
 use crate::done::Done;
-use crate::refusal::Refusal;
-use crate::{done, room};
+use crate::refusal::{Refusal, ask};
 use record::Record;
 
 // 1, 2 and 19; then the remembered token is written out. Ruled out: another token written; 2 where the buffer is
 // too small already.
-pub fn resend_in(s: &[u8], frames: &mut [u8]) -> Answer
+#[tactic(auto, using(crate::proofs::LentLaws::lent_rules, crate::proofs::ResendLaws::token_fits), unfolding(crate::specs::Over::resend_over, crate::specs::Resend::resent))]
+pub fn resend_in(s: &[u8], frames: &mut [u8]) -> Result<Answer, Refusal>
     ensures { Does answered (resend_over s.now (length frames.old)) result
         s.now s.now frames.old frames.new [] [] }
 {
-    if !room::resending_fits(frames.len()) {
-        return Answer::Refused(Refusal::NoRoom);
-    }
-    if !record::is_whole_in(s) {
-        return Answer::Refused(Refusal::NotWhole);
-    }
+    ask(visit::MOST_FRAMES <= frames.len(), Refusal::NoRoom)?;
+    ask(record::is_whole_in(s), Refusal::NotWhole)?;
     let t = record::turn_in(s);
-    if t.size == 0 {
-        return Answer::Refused(Refusal::NothingToResend);
-    }
+    ask(t.size != 0, Refusal::NothingToResend)?;
     visit::put_remembered(t, frames);
-    Answer::Resent(t.size)
+    Ok(Answer::Resent(t.size))
 }
 
 // Ruled out: another token written; the leave ended by resending.
 pub fn resend_step(rec: Record, frames: &mut [u8]) -> Done
-    ensures { (result ≡ done_of (resent rec (length frames.old)))
-        × (frames.new ≡ followed_by
-        (resent rec (length frames.old)).frames
-        frames.old) }
+    ensures { let reply = resent rec (length frames.old) in
+        (result ≡ done_of reply) × (frames.new ≡ followed_by reply.frames frames.old) }
 {
-    let mut bytes = [0u8; record::RECORD_SIZE];
-    done::lend(rec, &mut bytes);
-    let answer = resend_in(&bytes, frames);
-    done::settle(rec, answer, &bytes)
+    done::over_bytes(rec, frames, &mut [], |s, f, _| resend_in(s, f))
 }

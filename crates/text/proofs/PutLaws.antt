@@ -1,13 +1,16 @@
 -- Texts put one after another into a buffer.
 use Prim.Native.Nat.{ℕ, ◌+◌, ◌-◌, ◌<◌, ◌≤◌, min}
 use mathlib.Core.Path.{◌≡◌, refl, sym, ap, ◌∙◌}
-use mathlib.Core.List.{List, [], ◌∷◌, ◌++◌, append_assoc, append-nil, flatten}
+use mathlib.Core.Bool.{Bool, true, false, cond}
+use mathlib.Core.List.{List, [], ◌∷◌, ◌++◌, append-nil, flatten}
 use native.Mathlib.Nat.{add-zero, add_assoc}
 use native.Mathlib.Numerals.{add-one}
 use native.Mathlib.Omega.{arith}
-use borrow.Author.Tests.{le-leb, lt-leb}
+use borrow.Author.Tests.{le-leb, lt-leb, leb-true}
+use lib.Dec.{leb}
 use lib.ListN.{length, get_or, take, length-append}
-use lib.Seq.{sets, length-sets, take-suc, take_all}
+use lib.Seq.{sets, length-sets, take-suc}
+use Rattle.std.proofs.lemmas.Grind.{flat_map-append}
 use Rattle.words.proofs.StoreLaws.{sets-append}
 use Rattle.text.specs.Text.{Text, Filled, filled, piece, put_piece, put, each, Whole}
 
@@ -30,15 +33,34 @@ module _ (out : List ℕ) (at : ℕ) (bytes : List ℕ) where
   unfolding put put_piece
   put-stored out' room e = rw (le-leb (at + length bytes) (length out) room, e)
 
+-- a position within the buffer stays within
+piece-within : (bytes : List ℕ) (f : Filled) → f.at ≤ length f.out → (put_piece bytes f).at ≤ length (put_piece bytes f).out
+unfolding put_piece
+piece-within bytes f h = go (leb (f.at + length bytes) (length f.out)) refl
+  where
+    go : (b : Bool) → leb (f.at + length bytes) (length f.out) ≡ b
+        → (cond b (filled (f.at + length bytes) (sets f.out f.at bytes)) (filled (min f.at (length f.out)) f.out)).at
+        ≤ length (cond b (filled (f.at + length bytes) (sets f.out f.at bytes)) (filled (min f.at (length f.out)) f.out)).out
+    go true e = rw length-sets (leb-true (f.at + length bytes) (length f.out) e)
+    go false e = omega arith
+
+text-within : (text : Text) (f : Filled) → f.at ≤ length f.out → (put text f).at ≤ length (put text f).out
+unfolding put
+text-within [] f h = h
+text-within (bytes ∷ text) f h = text-within text (put_piece bytes f) (piece-within bytes f h)
+
+pub stays_within : (text : Text) (before after : Filled) → before.at ≤ length before.out → after ≡ put text before → after.at ≤ length after.out
+stays_within text before after h e = rw e (text-within text before h)
+
 -- ---- several
 
-put-append : (a b : Text) (f : Filled) → put (a ++ b) f ≡ put b (put a f)
+pub put_append : (a b : Text) (f : Filled) → put (a ++ b) f ≡ put b (put a f)
 unfolding put
-put-append [] b f = refl
-put-append (bytes ∷ a) b f = put-append a b (put_piece bytes f)
+put_append [] b f = refl
+put_append (bytes ∷ a) b f = put_append a b (put_piece bytes f)
 
 pub put_then : (a b : Text) (f : Filled) {f₁ f₂ : Filled} → f₁ ≡ put a f → f₂ ≡ put b f₁ → f₂ ≡ put (a ++ b) f
-put_then a b f p q = q ∙ ap (put b) p ∙ sym (put-append a b f)
+put_then a b f p q = q ∙ ap (put b) p ∙ sym (put_append a b f)
 
 -- with room for all of it, a text is put whole
 pub put-room : (text : Text) (at : ℕ) (out : List ℕ)
@@ -52,28 +74,19 @@ put-room (bytes ∷ text) at out room =
     let rest = put-room text (at + length bytes) (sets out at bytes) (rw length-sets (omega (arith, long, room))) in
     rw (fits, rest, long, add_assoc, sets-append)
 
-pub put_whole : {out : List ℕ} {at after : ℕ} {out' : List ℕ} (text : Text)
-    → at + length (flatten text) ≤ length out
-    → filled after out' ≡ put text (filled at out)
-    → Whole out at (flatten text) after out'
-put_whole {out} {at} {after} {out'} text room e =
-    let done = e ∙ put-room text at out room in
-    let ends : after ≡ at + length (flatten text) = ap (λ (f : Filled). f.at) done in
+pub put_whole : {before after : Filled} (text : Text)
+    → before.at + length (flatten text) ≤ length before.out
+    → after ≡ put text before
+    → Whole before (flatten text) after
+put_whole {before} {after} text room e =
+    let done = e ∙ put-room text before.at before.out room in
+    let ends : after.at ≡ before.at + length (flatten text) = ap (λ (f : Filled). f.at) done in
     record { within = omega (arith, ends, room); ends = ends; stored = ap (λ (f : Filled). f.out) done }
 
 -- ---- a loop that puts a text for each
 
-each_append : (f : ℕ → Text) (a b : List ℕ) → each f (a ++ b) ≡ each f a ++ each f b
-unfolding each
-each_append f [] b = refl
-each_append f (x ∷ a) b = rw (each_append f a b, append_assoc)
-
-each-one : (f : ℕ → Text) (x : ℕ) → each f (x ∷ []) ≡ f x
-unfolding each
-each-one f x = append-nil (f x)
-
 pub each-starts : (f : ℕ → Text) (xs : List ℕ) (start : Filled) → start ≡ put (each f (take 0 xs)) start
-unfolding each put
+unfolding put
 each-starts f xs start = refl
 
 pub each_goes : (f : ℕ → Text) (xs : List ℕ) (i : ℕ) (start : Filled) {now next : Filled}
@@ -81,7 +94,4 @@ pub each_goes : (f : ℕ → Text) (xs : List ℕ) (i : ℕ) (start : Filled) {n
     → now ≡ put (each f (take i xs)) start
     → next ≡ put (f (get_or xs i 0)) now
     → next ≡ put (each f (take (i + 1) xs)) start
-each_goes f xs i start h p q = rw (add-one i, take-suc xs i 0 h, each_append, each-one) (put_then _ _ start p q)
-
-pub each-ends : (f : ℕ → Text) (xs : List ℕ) (i : ℕ) (start : Filled) {now : Filled} → length xs ≤ i → now ≡ put (each f (take i xs)) start → now ≡ put (each f xs) start
-each-ends f xs i start h p = rw (take_all i xs h) at p
+each_goes f xs i start h p q = rw (add-one i, take-suc xs i 0 h, flat_map-append, append-nil) (put_then _ _ start p q)

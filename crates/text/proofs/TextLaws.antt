@@ -1,14 +1,13 @@
--- Laws of the text of numbers and of bytes.
+-- Laws of the text of numbers.
 use Prim.Native.Nat.{ℕ, zero, suc, ◌*◌, ◌-◌, ◌/◌, ◌%◌, ◌^◌, ◌<◌, ◌≤◌}
 use mathlib.Core.Path.{◌≡◌}
-use mathlib.Core.Bool.{true, false}
-use mathlib.Core.List.{List, [], ◌∷◌}
+use mathlib.Core.List.{List}
 use native.Mathlib.Nat.{sub-zero, pow-succ', one-le-pow, mod-lt, mod-eq_of_lt}
 use native.Mathlib.Omega.{arith}
 use borrow.Author.Tests.{lt-ltb, le-ltb}
 use lib.ListN.{take}
 use Rattle.io.specs.Digits.{last_digits, IsDigitCount}
-use Rattle.text.specs.Text.{Filled, put, piece, digits_to, decimal, is_plain, hexadecimal, escaped_byte}
+use Rattle.text.specs.Text.{Filled, put, piece, digits_to, decimal}
 
 -- a number of two digits or more leaves room for one more
 enough : (most n : ℕ) → 10 ≤ n → n < 10 ^ suc most → 1 ≤ most
@@ -44,14 +43,3 @@ pub decimal-put : (before : Filled) {after : Filled} (k n : ℕ) (bytes : List �
     → after ≡ put (piece (take (k - 0) bytes)) before
     → after ≡ put (decimal n) before
 decimal-put before k n bytes h f e p = rw (sub-zero, e, digits_decimal k 10 n (omega arith) (omega arith) f) at p
-
-pub plain-put : (before : Filled) {after : Filled} (b : ℕ) → is_plain b ≡ true → after ≡ put (piece (b ∷ [])) before → after ≡ put (escaped_byte b) before
-plain-put before b e p = rw e p
-
-pub escaped-put : (before : Filled) {after : Filled} (b x y : ℕ)
-    → is_plain b ≡ false
-    → x ≡ hexadecimal (b / 16)
-    → y ≡ hexadecimal (b % 16)
-    → after ≡ put (piece (92 ∷ 120 ∷ x ∷ y ∷ [])) before
-    → after ≡ put (escaped_byte b) before
-escaped-put before b x y e ex ey p = rw e (rw (ex, ey) at p)

@@ -1,5 +1,5 @@
 -- Text as bytes, and what putting a text into a buffer leaves.
-use Rattle.std.specs.Prelude.{ℕ, zero, suc, ◌+◌, ◌/◌, ◌%◌, ◌≤◌, min, ◌≡◌, Bool, not, ◌&&◌, cond, List, [], ◌∷◌, ◌++◌, length, ltb, leb, eqb}
+use Rattle.std.specs.Prelude.{ℕ, zero, suc, ◌+◌, ◌/◌, ◌%◌, ◌≤◌, min, ◌≡◌, Bool, not, ◌&&◌, cond, List, [], ◌∷◌, ◌++◌, length, flat_map, ltb, leb, eqb}
 use Prim.Native.Char.{code}
 use Prim.Native.String.{String, [] as none, ◌∷◌ as ◌then◌}
 use Rattle.std.proofs.lemmas.List.Edits.{sets}
@@ -40,14 +40,17 @@ abbrev pub escaped_byte : ℕ → Text
 escaped_byte b = piece (cond (is_plain b) (b ∷ []) (92 ∷ 120 ∷ hexadecimal (b / 16) ∷ hexadecimal (b % 16) ∷ []))
 
 -- a text for each, one after another
-unfoldable pub each : (ℕ → Text) → List ℕ → Text
-each f [] = []
-each f (x ∷ xs) = f x ++ each f xs
+abbrev pub each : (ℕ → Text) → List ℕ → Text
+each f xs = flat_map f xs
 
 abbrev pub escaped : List ℕ → Text
 escaped bytes = each escaped_byte bytes
 
 -- ---- putting it
+
+-- how long a buffer is
+abbrev pub room : ℕ
+room = 65536
 
 -- a buffer, and the position in it where the next piece goes
 pub record Filled : Type 0 where
@@ -70,7 +73,7 @@ put [] f = f
 put (bytes ∷ text) f = put text (put_piece bytes f)
 
 -- the bytes are put whole
-pub record Whole (out : List ℕ) (at : ℕ) (bytes : List ℕ) (after : ℕ) (out' : List ℕ) : Type 0 where
-  pub within : after ≤ length out
-  pub ends : after ≡ at + length bytes
-  pub stored : out' ≡ sets out at bytes
+pub record Whole (before : Filled) (bytes : List ℕ) (after : Filled) : Type 0 where
+  pub within : after.at ≤ length before.out
+  pub ends : after.at ≡ before.at + length bytes
+  pub stored : after.out ≡ sets before.out before.at bytes

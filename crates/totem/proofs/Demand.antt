@@ -1,6 +1,6 @@
 -- A refusal over C alters no lent byte.
 use Prim.Native.Nat.{ℕ}
-use mathlib.Core.Path.{◌≡◌, refl, ap, ◌∙◌}
+use mathlib.Core.Path.{◌≡◌, refl, sym, ap, ◌∙◌}
 use mathlib.Core.Bool.{Bool, true, false}
 use mathlib.Core.List.{List}
 use borrow.Author.Tests.{eqb-true}
@@ -13,20 +13,20 @@ use Rattle.station.specs.EveryReply.{LeavesAll}
 use Rattle.station.specs.Over.{found_in, post_over, arrive_over, resend_over}
 use Rattle.station.specs.declared.refusal.Refusal.{Refusal}
 use Rattle.station.specs.declared.answer.Outcome.{Outcome}
-use Rattle.station.proofs.DoesLaws.{no-taken}
+use Rattle.station.proofs.OutcomeLaws.{taken-by-number}
 use Rattle.station.proofs.ThereLaws.{not_taken}
 use Rattle.station.proofs.ReplyGood.{founded-good, posted-good, resent-good}
 use Rattle.station.proofs.ArrivedGood.{arrived-good}
 use Rattle.totem.specs.Demand.{Unaltered, Demand₁}
 
 refusal-leaves : (r : Record) (why : Refusal) (s : List ℕ) → station_after (refused r why) s ≡ s
-refusal-leaves r why s = rw (no-taken why)
+refusal-leaves r why s = refl
 
 unaltered : (r : Record) (reply : Reply) → LeavesAll r reply → Unaltered reply
 unaltered r reply leaves o s s' f f' d d' does some = go (is_taken reply.answer) refl
   where
     go : (b : Bool) → is_taken reply.answer ≡ b → (s' ≡ s) × (f' ≡ f) × (d' ≡ d) × (o.outcome ≡ 0) × (o.frames ≡ 0) × (o.deliveries ≡ 0) × (o.deaf ≡ 0)
-    go true t = absurd (some (ap (λ (x : Outcome). x.refusal) does.answers ∙ eqb-true (outcome_of reply.answer).refusal 0 t))
+    go true t = absurd (some (ap (λ (x : Outcome). x.refusal) does.answers ∙ eqb-true (outcome_of reply.answer).refusal 0 (sym (taken-by-number reply.answer) ∙ t)))
     go false t =
         let no = not_taken reply.answer t in
         let e = leaves no.0 no.1 in

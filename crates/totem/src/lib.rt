@@ -22,7 +22,7 @@ pub fn totem_found(
         bytes.old bytes.new token.old token.new [] [] }
 {
     let founded = station::found_in(bytes, members, own, RingNumber(ring), token);
-    station::outcome_of(founded)
+    Outcome::from(founded)
 }
 
 // Posting. Ruled out: 9 with an empty queue; a record of another length taken.
@@ -31,7 +31,7 @@ pub fn totem_post(bytes: &mut [u8], service: u16, content: &[u8]) -> Outcome
         bytes.old bytes.new [] [] [] [] }
 {
     let posted = station::post_in(bytes, service, content);
-    station::outcome_of(posted)
+    Outcome::from(posted)
 }
 
 // Arrival. Ruled out: every message 'ahead'; a record written with a refusal.
@@ -47,7 +47,7 @@ pub fn totem_arrive(
         deliveries.old deliveries.new }
 {
     let arrived = station::arrive_in(bytes, frame, frames, deliveries);
-    station::outcome_of(arrived)
+    Outcome::from(arrived)
 }
 
 // Resending. Ruled out: another token written; 2 where the buffer is too small already.
@@ -56,5 +56,5 @@ pub fn totem_resend(bytes: &[u8], frames: &mut [u8]) -> Outcome
         bytes.now bytes.now frames.old frames.new [] [] }
 {
     let resent = station::resend_in(bytes, frames);
-    station::outcome_of(resent)
+    Outcome::from(resent)
 }

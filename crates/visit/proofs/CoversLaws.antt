@@ -1,7 +1,7 @@
 -- 18, place by place.
 use Prim.Native.Nat.{ℕ, suc, ◌+◌, ◌-◌, ◌<◌, ◌≤◌}
-use mathlib.Core.Path.{◌≡◌, refl, sym, ◌∙◌}
-use mathlib.Core.Bool.{Bool, true, false, not, ◌||◌}
+use mathlib.Core.Path.{◌≡◌, sym, ◌∙◌}
+use mathlib.Core.Bool.{Bool, false, not, ◌||◌}
 use mathlib.Core.List.{List}
 use borrow.Author.Tests.{le-leb, lt-leb, le-ltb, lt-ltb}
 use native.Mathlib.Decide.{dec_lt}
@@ -18,11 +18,7 @@ use Rattle.visit.specs.Acceptable.{covers_held}
 
 -- the question of a place, as the code asks
 abbrev pub place_covered : List ℕ → ℕ → ℕ → ℕ → Bool
-place_covered senders covered safe i = ltb (before_in safe i) covered || eqb (get_or senders i 0) 0
-
-not-not : (b : Bool) → not (not b) ≡ b
-not-not true = refl
-not-not false = refl
+place_covered senders covered safe i = ltb (before_in safe i) covered || not (not (eqb (get_or senders i 0) 0))
 
 module _ (l : Log) (highest : ℕ) where
   pub covers_below : highest < l.level.0 → false ≡ covers_held l highest
@@ -41,7 +37,7 @@ module _ (l : Log) (highest : ℕ) where
 
   -- the number's question is its place's
   same : (j : ℕ) → j < most_held → place_covered l.held.senders (highest - l.safe.0) l.safe.0 (place_of (number j)) ≡ (leb (number j) highest || not (holds l (number j)))
-  same j h = rw (before-place l.safe.0 j h, reached j, held-in-place l j h, not-not)
+  same j h = rw (before-place l.safe.0 j h, reached j, held-in-place l j h)
 
   pub covers-by-place : (good : Bool)
       → l.level.0 ≤ highest

@@ -53,11 +53,11 @@ module _ (l : Log) (safe : ℕ) where
         let is = rw (left, more) at k.is in
         rw (add-one last) (record { low = omega (arith, k.low); is = omega (arith, k.low, is) })
 
-    pub count-ends : l.level.0 ≤ last → last - l.delivered.0 ≡ length (due l safe)
+    pub count-ends : l.level.0 ≤ last → l.level.0 - l.delivered.0 ≡ length (due l safe)
     unfolding due_from
     count-ends h =
         let none : l.level.0 - last ≡ 0 = omega arith in
-        omega (arith, rw none at k.is)
+        omega (arith, rw none at k.is, due-most l safe)
 
 -- ---- a run of numbers
 

@@ -26,12 +26,11 @@ use Rattle.visit.specs.Deliver.{ring_header}
 use Rattle.visit.specs.Visit.{Visit, log, own, turn, others, waits, others_backlog, requests, unanswered, new_count, highest', log_now, is_nobody, is_own, sets_aru, aru', blocker', deaf_above, stall', deaf, safe', missing, requests', broadcasts, round', waits', backlog', next_member, token', turn'}
 use Rattle.record.specs.Count.{those, numbers_after}
 use Rattle.visit.specs.Acceptable.{Acceptable}
-use Rattle.visit.specs.inner.Steps.{listed, list_in, sent_of, reach_after, reach_of, forwarded_of}
-use Rattle.visit.specs.declared.requests.Requests.{Requests}
+use Rattle.visit.specs.inner.Places.{padded}
+use Rattle.visit.specs.inner.Steps.{sent_of, reach_after, reach_of, forwarded_of}
 use Rattle.visit.specs.declared.broadcasting.Sent.{Sent}
 use Rattle.visit.specs.declared.marks.Reach.{Reach}
 use Rattle.visit.proofs.EachLaws.{those-length}
-use Rattle.visit.proofs.ListedLaws.{list-of-listed, count-of-listed}
 use Rattle.visit.proofs.RequestLaws.{few-requests}
 use Rattle.visit.proofs.TokenLaws.{token-follows, token-long, token-short}
 use Rattle.visit.proofs.VisitFacts.{facts, token-good, few-left, new-posts, few-broadcasts, highest-most, now-good}
@@ -83,7 +82,7 @@ module _ (v : Visit) (a : Acceptable v) where
     unfolding sent_of
     sent-log = ap (λ (x : Sent). x.log) sends
 
-    sent-rest : b.rest ≡ listed (unanswered v)
+    sent-rest : b.rest ≡ unanswered v
     unfolding sent_of
     sent-rest = ap (λ (x : Sent). x.rest) sends
 
@@ -118,22 +117,21 @@ module _ (v : Visit) (a : Acceptable v) where
       window-fits = omega (arith, safe-most)
 
       module _ (top : ℕ) (tops : top ≡ min (v.token.highest.0 + b.added) (safe + most_held)) where
-        pub missing-ready : (b.log.safe.0 ≤ most_number) × (top ≤ most_number) × (b.log.level.0 ≤ most_number) × (b.rest ≡ listed (list_in b.rest)) × (b.rest.count ≤ most_requests)
+        pub missing-ready : (b.log.safe.0 ≤ most_number) × (top ≤ most_number) × (b.log.level.0 ≤ most_number) × (length b.rest ≤ most_requests)
         missing-ready =
             let m = (now-good v a).ready.marks in (
               rw sent-log (omega (arith, m.safe_first, m.level-last, m.level-most)),
               omega (arith, highest-fits),
               rw sent-log m.level-most,
-              rw (sent-rest, list-of-listed),
-              rw (sent-rest, count-of-listed) few-unanswered,
+              rw sent-rest few-unanswered,
             )
 
-        pub requested : (r : Requests)
-            → ((contents : List ℕ) → r ≡ listed (take most_requests
-            (list_in b.rest ++ those (λ n. not (holds (log_on b.log contents) n) && lacks (list_in b.rest) n) (numbers_after b.log.level.0 (top - b.log.level.0)))))
-            → r ≡ listed (requests' v)
+        pub requested : (r : List ℕ)
+            → ((contents : List ℕ) → r ≡ take most_requests
+            (b.rest ++ those (λ n. not (holds (log_on b.log contents) n) && lacks b.rest n) (numbers_after b.log.level.0 (top - b.log.level.0))))
+            → r ≡ requests' v
         unfolding requests' missing
-        requested r e = e (log_now v).held.contents ∙ rw (sent-rest, list-of-listed, sent-log, tops, sent-highest, marks)
+        requested r e = e (log_now v).held.contents ∙ rw (sent-rest, sent-log, tops, sent-highest, marks)
 
     -- ---- step 8
 
@@ -150,7 +148,7 @@ module _ (v : Visit) (a : Acceptable v) where
     unfolding waits'
     left-waiting n e = e ∙ rw sent-added
 
-    pub token-made : (header : Header) (addressee others-count round backlog-count waits-now backlog : ℕ) (r : Reach) (asked : Requests) (places : List MessageNumber)
+    pub token-made : (header : Header) (addressee others-count round backlog-count waits-now backlog : ℕ) (r : Reach) (asked : List ℕ) (places : List MessageNumber)
         → header ≡ ring_header (log v)
         → addressee ≡ next_member (take ((log v).count - 0) (log v).members) (own v)
         → others-count ≡ v.token.round - (turn v).broadcast
@@ -159,8 +157,8 @@ module _ (v : Visit) (a : Acceptable v) where
         → waits-now ≡ waits' v
         → backlog ≡ min (backlog-count + waits-now) most_backlog
         → r ≡ reach_of v
-        → asked ≡ listed (requests' v)
-        → places ≡ numbered asked.numbers
+        → asked ≡ requests' v
+        → places ≡ numbered (padded asked)
         → record {
           header = header;
           addressee = addressee;
@@ -170,11 +168,11 @@ module _ (v : Visit) (a : Acceptable v) where
           blocker = r.blocker;
           round = round;
           backlog = backlog;
-          count = asked.count;
+          count = length asked;
           requests = places;
         }
         ≡ token' v
-    unfolding token' reach_of listed round' others backlog' others_backlog
+    unfolding token' reach_of round' others backlog' others_backlog
     token-made header addressee others-count round backlog-count waits-now backlog r asked places h d o n q w m e f p =
         rw (h, d, n, o, m, q, w, sent-count, sent-highest, e, p, f, sub-zero)
 

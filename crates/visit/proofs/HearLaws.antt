@@ -1,6 +1,6 @@
 -- The level's loop, and a message that is heard, outcome by outcome.
 use Prim.Native.Nat.{ℕ, zero, suc, ◌+◌, ◌-◌, ◌<◌, ◌≤◌}
-use mathlib.Core.Path.{◌≡◌, refl, sym, ap, ◌∙◌}
+use mathlib.Core.Path.{◌≡◌, sym, ap, ◌∙◌}
 use mathlib.Core.Bool.{Bool, true, false, not, ◌&&◌, cond}
 use mathlib.Core.List.{List}
 use native.Mathlib.Numerals.{add-one}
@@ -28,7 +28,7 @@ use Rattle.record.proofs.WholeFacts.{whole-good}
 use Rattle.visit.specs.Output.{followed_by, most_deliveries}
 use Rattle.visit.specs.Level.{reached, level_of, raised}
 use Rattle.visit.specs.Deliver.{due, handed_out, delivered}
-use Rattle.visit.specs.Message.{is_had, is_ahead, entry_in, resend_ended, log_with_message, rec_heard, handed_heard, heard_of}
+use Rattle.visit.specs.Message.{is_had, is_ahead, heard_as, entry_in, resend_ended, log_with_message, rec_heard, handed_heard, heard_of}
 use Rattle.visit.specs.Acceptable.{Hearable}
 use Rattle.visit.specs.inner.Steps.{head_delivered, head_heard}
 use Rattle.visit.specs.declared.hearing.Heard.{Heard}
@@ -41,12 +41,9 @@ use Rattle.visit.proofs.DueCount.{due-fits}
 
 -- ---- the level rises, by `most` more at most
 
-pub record Rising (has : ℕ → Bool) (first level most : ℕ) : Type 0 where
-  pub both : level + most ≡ first + most_held
-  pub rest : reached has most level ≡ reached has most_held first
-
-pub rise-starts : (has : ℕ → Bool) (first : ℕ) → Rising has first first most_held
-rise-starts has first = record { both = refl; rest = refl }
+-- from here it rises as far as from the first
+abbrev pub Rising : (ℕ → Bool) → ℕ → ℕ → Type 0
+Rising has first level = reached has (first + most_held - level) level ≡ reached has most_held first
 
 reached-more : (has : ℕ → Bool) (most level : ℕ) → 0 < most → reached has most level ≡ cond (has (level + 1)) (reached has (most - 1) (level + 1)) level
 unfolding reached
@@ -55,18 +52,23 @@ reached-more has (suc most) level h =
     let less : suc most - 1 ≡ most = omega arith in
     rw (less, add-one level)
 
-module _ (has : ℕ → Bool) (first level most : ℕ) (so_far : Rising has first level most) where
-  pub rise-stops : 0 < most → has (level + 1) ≡ false → level ≡ reached has most_held first
-  rise-stops h f = rw (reached-more has most level h, f) at so_far.rest
+module _ (has : ℕ → Bool) (first level : ℕ) (so_far : Rising has first level) where
+  more : level < first + most_held → reached has most_held first ≡ cond (has (level + 1)) (reached has (first + most_held - (level + 1)) (level + 1)) level
+  more h =
+      let less : first + most_held - level - 1 ≡ first + most_held - (level + 1) = omega arith in
+      sym so_far ∙ (rw less at (reached-more has (first + most_held - level) level (omega arith)))
 
-  pub rise-goes : 0 < most → has (level + 1) ≡ true → Rising has first (level + 1) (most - 1)
-  rise-goes h f = record { both = omega (arith, so_far.both); rest = rw (reached-more has most level h, f) at so_far.rest }
+  pub rise-stops : level < first + most_held → has (level + 1) ≡ false → level ≡ reached has most_held first
+  rise-stops h f = rw (more h, f)
 
-  pub rise-ends : most ≤ 0 → level ≡ reached has most_held first
+  pub rise-goes : level < first + most_held → has (level + 1) ≡ true → Rising has first (level + 1)
+  rise-goes h f = rw (more h, f)
+
+  pub rise-ends : level ≡ first + most_held → first + most_held ≡ reached has most_held first
   unfolding reached
-  rise-ends h =
-      let none : most ≡ 0 = omega arith in
-      rw none at so_far.rest
+  rise-ends e =
+      let none : first + most_held - level ≡ 0 = omega arith in
+      sym e ∙ (rw none at so_far)
 
 -- the level by the safe mark and the senders alone
 pub raised-as : (l : Log) (n : MessageNumber)
@@ -133,9 +135,9 @@ result_of r m content = record { heard = heard_of r m content; rec = rec_heard r
 abbrev Leaves : Result → Heard → List ℕ → List ℕ → List ℕ → Type 0
 Leaves result heard s' out out' = (heard ≡ result.heard) × (s' ≡ record_bytes result.rec) × (out' ≡ followed_by result.out out)
 
-module _ (h : Head) (s contents : List ℕ) (reads : contents ≡ contents_in s log_at) (l : LogHead) (handed : Handed) (size : ℕ) (s' out out' : List ℕ)
+module _ (h : Head) (s contents : List ℕ) (reads : contents ≡ contents_in s log_at) (l : LogHead) (how : Hearing) (handed : Handed) (heard : Heard) (s' out out' : List ℕ)
     (hands : HandedOf l contents handed out out')
-    (puts : (size ≡ handed.size) × (s' ≡ record_bytes (record_in (head_heard h (head_delivered l handed.count)) s))) where
+    (puts : (heard ≡ record { how = how; size = handed.size }) × (s' ≡ record_bytes (record_in (head_heard h (head_delivered l handed.count)) s))) where
   there : HandedOf l (contents_in s log_at) handed out out'
   there = rw reads at hands
 
@@ -143,26 +145,35 @@ module _ (h : Head) (s contents : List ℕ) (reads : contents ≡ contents_in s 
   unfolding delivered
   after = rw there.0
 
-  pub leaves-heard : (result : Result) (how : Hearing) → result ≡ heard_on (record_in h s) (log_on l (contents_in s log_at)) how → Leaves result (record { how = how; size = size }) s' out out'
-  leaves-heard result how e =
+  pub leaves-heard : (result : Result) → result ≡ heard_on (record_in h s) (log_on l (contents_in s log_at)) how → Leaves result heard s' out out'
+  leaves-heard result e =
       let rest : Log → Record = λ (x : Log). with_parts (record_in h s) x (resend_ended h.turn) (record_in h s).posts in
-      rw e (ap (λ n. record { how = how; size = n }) (puts.0 ∙ there.1), puts.1 ∙ ap (λ (x : Log). record_bytes (rest x)) after, there.2)
+      rw e (puts.0 ∙ ap (λ n. record { how = how; size = n }) there.1, puts.1 ∙ ap (λ (x : Log). record_bytes (rest x)) after, there.2)
 
 -- ---- had, or ahead, or kept
 
-module _ (r : Record) (m : Message) (content : List ℕ) (had : Bool) (ask-had : had ≡ is_had r.log m.number.0) where
-  pub is-heard-had : had ≡ true → result_of r m content ≡ heard_on r r.log WasHad
+-- one of three by two tests, and which
+not-last : {A : Type 0} (had ahead : Bool) (l kept : A) → (cond had WasHad (cond ahead IsAhead IsKept) ≡ IsKept → ⊥) → cond had l (cond ahead l kept) ≡ l
+not-last true ahead l kept other = λ i. l
+not-last false true l kept other = λ i. l
+not-last false false l kept other = absurd (other (λ i. IsKept))
+
+the-last : (had ahead : Bool) → cond had WasHad (cond ahead IsAhead IsKept) ≡ IsKept → (had ≡ false) × (ahead ≡ false)
+the-last true ahead e = cc
+the-last false true e = cc
+the-last false false e = ((λ i. false), (λ i. false))
+
+module _ (r : Record) (m : Message) (content : List ℕ) (how : Hearing) (is : how ≡ heard_as r.log m.number.0 WasHad IsAhead IsKept) where
+  pub is-heard : (how ≡ IsKept → ⊥) → result_of r m content ≡ heard_on r r.log how
   unfolding log_with_message
-  is-heard-had yes-had = rw (sym ask-had ∙ yes-had)
+  is-heard other = rw (is, not-last (is_had r.log m.number.0) (is_ahead r.log m.number.0) r.log (raised (stored r.log m.number.0 (entry_in m content))) (rw is at other))
 
-  module _ (not-had : had ≡ false) (ahead : Bool) (ask-ahead : ahead ≡ is_ahead r.log m.number.0) where
-    pub is-heard-ahead : ahead ≡ true → result_of r m content ≡ heard_on r r.log IsAhead
-    unfolding log_with_message
-    is-heard-ahead yes-ahead = rw (sym ask-had ∙ not-had, sym ask-ahead ∙ yes-ahead)
+  pub not-had : how ≡ IsKept → (is_had r.log m.number.0 ≡ false) × (is_ahead r.log m.number.0 ≡ false)
+  not-had e = the-last (is_had r.log m.number.0) (is_ahead r.log m.number.0) (sym is ∙ e)
 
-    -- it was kept where the record is lent: the posts are as they were
-    pub is-heard-kept : ahead ≡ false → (r' : Record) (kept : Log) → (r'.own ≡ r.own) × (r'.turn ≡ r.turn) × (r'.posts ≡ r.posts)
-        → kept ≡ raised (stored r.log m.number.0 (entry_in m content))
-        → result_of r m content ≡ heard_on r' kept IsKept
-    unfolding log_with_message
-    is-heard-kept not-ahead r' kept same e = rw (sym ask-had ∙ not-had, sym ask-ahead ∙ not-ahead, same.0, same.1, same.2, e)
+  -- it was kept where the record is lent: the posts are as they were
+  pub is-heard-kept : how ≡ IsKept → (r' : Record) (kept : Log) → (r'.own ≡ r.own) × (r'.turn ≡ r.turn) × (r'.posts ≡ r.posts)
+      → kept ≡ raised (stored r.log m.number.0 (entry_in m content))
+      → result_of r m content ≡ heard_on r' kept how
+  unfolding log_with_message
+  is-heard-kept e r' kept same k = rw (is, (not-had e).0, (not-had e).1, same.0, same.1, same.2, k)

@@ -2,7 +2,6 @@
 use Prim.Native.Nat.{ℕ, zero, suc, ◌+◌, ◌*◌, ◌-◌, ◌<◌, ◌≤◌}
 use mathlib.Core.Path.{◌≡◌, refl, sym, ap, ◌∙◌}
 use mathlib.Core.List.{List, [], ◌∷◌}
-use native.Mathlib.Nat.{add-zero, sub-zero}
 use native.Mathlib.Omega.{arith}
 use lib.ListN.{length, get_or, set, take, drop, length-drop}
 use lib.Seq.{sets, take_at, length-take-le}
@@ -68,9 +67,6 @@ pub record Heading (first : LogHead) (contents : List ℕ) (own highest : ℕ) (
   pub rest : head_of (with_sent (log_on l contents) own (highest + i) (posts_from p i (n - i))) ≡ head_of (with_sent (log_on first contents) own highest (posts_from p 0 n))
 
 module _ (first : LogHead) (contents : List ℕ) (own highest : ℕ) (p : Posts) (n : ℕ) where
-  pub heading-starts : Heading first contents own highest p n first 0
-  heading-starts = record { within = omega arith; rest = rw (add-zero, sub-zero) }
-
   module _ (l : LogHead) (i : ℕ) (so_far : Heading first contents own highest p n l i) where
     pub heading-goes : i < n
         → PostsRange p
@@ -115,9 +111,6 @@ pub record Placing (l : LogHead) (own highest : ℕ) (p : Posts) (n : ℕ) (befo
       ≡ (with_sent (log_on l before) own highest (posts_from p 0 n)).held.contents
 
 module _ (l : LogHead) (own highest : ℕ) (p : Posts) (n : ℕ) (before : List ℕ) where
-  pub placing-starts : Placing l own highest p n before before 0
-  placing-starts = record { within = omega arith; rest = rw (add-zero, sub-zero) }
-
   module _ (contents : List ℕ) (i : ℕ) (so_far : Placing l own highest p n before contents i) where
     pub placing-goes : (contents' : List ℕ)
         → i < n

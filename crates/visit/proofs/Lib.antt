@@ -20,7 +20,6 @@ pub mod ListedLaws
 pub mod RequestLaws
 pub mod CirculationLaws
 pub mod TokenLaws
-pub mod MarkLaws
 pub mod CoversLaws
 pub mod PutFrames
 pub mod VisitReads

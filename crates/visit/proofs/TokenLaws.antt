@@ -1,4 +1,5 @@
 -- The token that is written follows the layout, reads, and passes 10 to 14.
+use Rattle.std.specs.Prelude.{Option, Some, None}
 use Prim.Native.Nat.{ℕ, ◌+◌, ◌-◌, ◌<◌, ◌≤◌}
 use mathlib.Core.Path.{◌≡◌, refl}
 use mathlib.Core.Bool.{Bool, true, false, not, cond, and-false}
@@ -12,8 +13,6 @@ use Rattle.frames.specs.Number.{most_number, is_number, is_id}
 use Rattle.frames.specs.Layout.{most_round, most_backlog, most_requests, longest_token, token_size}
 use Rattle.frames.specs.Token.{blocker_follows, token_follows, token_bytes}
 use Rattle.frames.specs.Read.{read_of, a_token}
-use Rattle.frames.specs.declared.token.Blocker.{Blocker}
-use Rattle.frames.specs.declared.token.Blocker.TheVariants.{Nobody, Member}
 use Rattle.frames.proofs.NumberedLaws.{numbers-back}
 use Rattle.frames.proofs.Facts.{part}
 use Rattle.frames.proofs.Restored.{token-restored}
@@ -68,23 +67,23 @@ module _ (v : Visit) (a : Acceptable v) where
   highest-grows = omega arith
 
   -- what stays, stays below the highest number and blocked by another
-  kept-follows : (b : Blocker) (aru highest : ℕ) → own_or_nobody (own v) b ≡ false → aru ≤ highest → highest ≤ highest' v → blocker_follows b aru highest ≡ true → blocker_follows b aru (highest' v) ≡ true
-  kept-follows Nobody aru highest other low grows e = absurd (not-both refl other)
-  kept-follows (Member id) aru highest other low grows e =
+  kept-follows : (b : Option ℕ) (aru highest : ℕ) → own_or_nobody (own v) b ≡ false → aru ≤ highest → highest ≤ highest' v → blocker_follows b aru highest ≡ true → blocker_follows b aru (highest' v) ≡ true
+  kept-follows None aru highest other low grows e = absurd (not-both refl other)
+  kept-follows (Some id) aru highest other low grows e =
       let differs = eqb-false aru highest (not-true (eqb aru highest) (part e (λ (f : not (eqb aru highest) ≡ false). rw f))) in
       let known = part e (λ (f : is_id id ≡ false). simp (f, and-false)) in
       let apart : aru ≡ highest' v → ⊥ = λ q. differs (omega arith) in
       rw (ne_eqb aru (highest' v) apart, known)
 
-  set-follows : (b : Bool) → eqb (level' v) (highest' v) ≡ b → blocker_follows (cond b Nobody (Member (own v))) (level' v) (highest' v) ≡ true
+  set-follows : (b : Bool) → eqb (level' v) (highest' v) ≡ b → blocker_follows (cond b None (Some (own v))) (level' v) (highest' v) ≡ true
   set-follows true e = e
   set-follows false e = rw (e, own-id v.rec (facts v a))
 
-  set-members : (b : Bool) → blocker_member (ids (log v)) (cond b Nobody (Member (own v))) ≡ true
+  set-members : (b : Bool) → blocker_member (ids (log v)) (cond b None (Some (own v))) ≡ true
   set-members true = refl
   set-members false = (founded-facts v.rec (facts v a)).among
 
-  pub record BlockerGood (aru : ℕ) (blocker : Blocker) : Type 0 where
+  pub record BlockerGood (aru : ℕ) (blocker : Option ℕ) : Type 0 where
     pub low : aru ≤ highest' v
     pub follows : blocker_follows blocker aru (highest' v) ≡ true
     pub member : blocker_member (ids (log v)) blocker ≡ true
@@ -93,7 +92,7 @@ module _ (v : Visit) (a : Acceptable v) where
   unfolding token_members
   token-blocker = part a.members (λ (f : blocker_member (ids (log v)) v.token.blocker ≡ false). simp (f, and-false))
 
-  blocker-case : (sets : Bool) → sets_aru v ≡ sets → BlockerGood (cond sets (level' v) v.token.aru.0) (cond sets (cond (eqb (level' v) (highest' v)) Nobody (Member (own v))) v.token.blocker)
+  blocker-case : (sets : Bool) → sets_aru v ≡ sets → BlockerGood (cond sets (level' v) v.token.aru.0) (cond sets (cond (eqb (level' v) (highest' v)) None (Some (own v))) v.token.blocker)
   unfolding sets_aru
   blocker-case true e =
       record {

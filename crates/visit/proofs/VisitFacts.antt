@@ -34,7 +34,7 @@ use Rattle.visit.specs.Reads.{Each}
 use Rattle.visit.specs.Acceptable.{Acceptable}
 use Rattle.visit.proofs.LevelLaws.{raised-holds, raised-level, level-low, level-most}
 use Rattle.visit.proofs.RingFacts.{founded-facts, own-some}
-use Rattle.visit.proofs.NewLaws.{NewFit, new-rest, holds-below, holds-above, holds-new}
+use Rattle.visit.proofs.NewLaws.{NewFit, new-rest, holds-above, holds-new}
 use Rattle.visit.proofs.NewWhole.{new-ready, posts-entries}
 use Rattle.visit.proofs.LogSteps.{raised-good}
 use Rattle.visit.proofs.EachLaws.{each_map, each_take, those-length}
@@ -177,9 +177,6 @@ module _ (v : Visit) (a : Acceptable v) where
   now-new n low high = now-holds n ∙ holds-new (log v) (own v) v.token.highest.0 new_posts new-fit n low (omega (arith, new-length))
 
   -- what was held before
-  pub now-old : (n : ℕ) → n ≤ v.token.highest.0 → holds (log_now v) n ≡ holds (log v) n
-  now-old n low = now-holds n ∙ holds-below (log v) (own v) v.token.highest.0 new_posts new-fit n low
-
   -- ---- all else but the level stays
 
   now-rest : log_now v ≡ log_with (log v) (log_now v).level (log v).safe (log v).delivered (log_now v).held

@@ -1,14 +1,12 @@
 -- Every frame that a visit writes or hands out reads, and question 1's sizes always suffice.
 use Prim.Native.Nat.{◌+◌, ◌*◌, ◌≤◌}
-use mathlib.Core.Path.{◌≡◌, ap, ◌∙◌}
+use mathlib.Core.Path.{◌≡◌, refl, ap, ◌∙◌}
 use mathlib.Core.Bool.{true}
 use mathlib.Core.List.{[], ◌∷◌, ◌++◌, map, flatten, append-nil}
 use native.Mathlib.Omega.{arith}
 use lib.ListN.{length, length-append}
 use Rattle.frames.specs.Layout.{longest_message}
 use Rattle.frames.specs.Token.{token_bytes}
-use Rattle.frames.specs.Read.{read_of}
-use Rattle.frames.specs.declared.reader.Reading.{Reading}
 use Rattle.frames.proofs.Rewritten.{Exact, token-read}
 use Rattle.record.specs.Held.{holds}
 use Rattle.record.specs.Size.{most_broadcasts}
@@ -65,9 +63,9 @@ module _ (v : Visit) (a : Acceptable v) where
   frames-found : frames_in (joined (written v)) ≡ written v
   frames-found = frames-within (written v) written-exact
 
-  addressed : (read_of (token_bytes (token' v))).token.addressee ≡ next_member (ids (log v)) (own v)
+  addressed : (token' v).addressee ≡ next_member (ids (log v)) (own v)
   unfolding token'
-  addressed = ap (λ (x : Reading). x.token.addressee) (token-reads v a)
+  addressed = refl
 
   pub visit-reads : VisitReads v
   visit-reads =

@@ -46,7 +46,7 @@ pub record VisitReads (v : Visit) : Type 0 where
   pub sent : Each (HeldReads (log_now v)) (new_numbers v)
   pub forwarded : read_of (token_bytes (token' v)) ≡ a_token (token' v)
   pub passes : token_passes (log v).ring.0 (ids (log v)) (token_bytes (token' v)) ≡ true
-  pub next : (read_of (token_bytes (token' v))).token.addressee ≡ next_member (ids (log v)) (own v)
+  pub next : (token' v).addressee ≡ next_member (ids (log v)) (own v)
   -- the frames within its bytes for the cable are these
   pub within : frames_in (joined (written v)) ≡ written v
 

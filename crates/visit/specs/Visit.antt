@@ -1,13 +1,11 @@
 -- A token is accepted: steps 1 to 9. [document 01, A token is accepted; the paper's Figure 3, 'regular token received']
 -- A visit is a record and the token that arrives. Every quantity is a function of the visit; a prime marks the value after it. In square
 -- brackets stands the paper's name. 'Not below 0' needs no word: `a - b` is 0 where b is the larger.
-use Rattle.std.specs.Prelude.{ℕ, suc, ◌+◌, ◌-◌, ◌*◌, ◌/◌, min, max, Bool, true, false, not, ◌&&◌, ◌||◌, cond, List, [], ◌∷◌, ◌++◌, map, length, get_or, take, replicate, ltb, eqb}
+use Rattle.std.specs.Prelude.{ℕ, suc, ◌+◌, ◌-◌, ◌*◌, ◌/◌, min, max, Bool, true, false, not, ◌&&◌, ◌||◌, cond, List, [], ◌∷◌, ◌++◌, map, length, get_or, take, replicate, ltb, eqb, Option, Some, None}
 use Rattle.words.specs.Scan.{lacks}
 use Rattle.frames.specs.Number.{most_number}
 use Rattle.frames.specs.Layout.{most_round, most_backlog, most_requests, longest_token}
 use Rattle.frames.specs.Token.{numbered, request_numbers, token_bytes}
-use Rattle.frames.specs.declared.token.Blocker.{Blocker}
-use Rattle.frames.specs.declared.token.Blocker.TheVariants.{Nobody, Member}
 use Rattle.frames.specs.declared.token.Token.{Token}
 use Rattle.record.specs.Size.{most_held, most_stall}
 use Rattle.record.specs.Count.{numbers_after, those}
@@ -122,15 +120,15 @@ level' v = (log_now v).level.0
 
 -- ---- 4. If level < aru, or the blocker is oneself or nobody: aru = level
 
-abbrev pub is_nobody : Blocker → Bool
-is_nobody Nobody = true
-is_nobody (Member id) = false
+abbrev pub is_nobody : Option ℕ → Bool
+is_nobody None = true
+is_nobody (Some id) = false
 
-abbrev pub is_own : ℕ → Blocker → Bool
-is_own own Nobody = false
-is_own own (Member id) = eqb id own
+abbrev pub is_own : ℕ → Option ℕ → Bool
+is_own own None = false
+is_own own (Some id) = eqb id own
 
-abbrev pub own_or_nobody : ℕ → Blocker → Bool
+abbrev pub own_or_nobody : ℕ → Option ℕ → Bool
 own_or_nobody own blocker = is_nobody blocker || is_own own blocker
 
 unfoldable pub sets_aru : Visit → Bool
@@ -141,8 +139,8 @@ unfoldable pub aru' : Visit → ℕ
 aru' v = cond (sets_aru v) (level' v) v.token.aru.0
 
 -- [aru_id]
-unfoldable pub blocker' : Visit → Blocker
-blocker' v = cond (sets_aru v) (cond (eqb (level' v) (highest' v)) Nobody (Member (own v))) v.token.blocker
+unfoldable pub blocker' : Visit → Option ℕ
+blocker' v = cond (sets_aru v) (cond (eqb (level' v) (highest' v)) None (Some (own v))) v.token.blocker
 
 -- ---- 5. The stall count, and the notice 'deaf'
 

@@ -6,16 +6,8 @@ ghost use Rattle.visit.specs.Visit.{next_member};
 pub fn next_member(ids: &[u16], own: u16) -> u16
     ensures { result ≡ next_member ids.now own }
 {
-    let first = record::representative_of(ids);
-    let mut i = 0;
-    while i < ids.len() {
-        if ids[i] == own {
-            if i + 1 < ids.len() {
-                return ids[i + 1];
-            }
-            return first;
-        }
-        i += 1;
+    match ids.iter().position(|id| *id == own) {
+        Some(i) if i + 1 < ids.len() => ids[i + 1],
+        _ => record::representative_of(ids),
     }
-    first
 }

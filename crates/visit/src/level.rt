@@ -20,16 +20,13 @@ pub fn level_of(
         (λ n. ltb safe.0 n && leb n (safe.0 + most_held) && not (eqb (get_or senders.now (place_of n) 0) 0))
         most_held level.0 }
 {
-    let mut reached = level.0;
-    let mut most = record::MOST_HELD;
-    while most > 0 {
+    let most = level.0 + record::MOST_HELD as u32;
+    for reached in level.0..most {
         if !record::is_held(safe, senders, MessageNumber(reached + 1)) {
             return MessageNumber(reached);
         }
-        reached += 1;
-        most -= 1;
     }
-    MessageNumber(reached)
+    MessageNumber(most)
 }
 
 // The log with its level risen. Ruled out: a rise past a gap; a rise by one where more is held.
@@ -37,7 +34,6 @@ pub fn raise(l: LogHead) -> LogHead
     requires { (l.safe.0 ≤ most_number) × (l.level.0 ≤ most_number) }
     ensures { (contents : List ℕ) → log_on result contents ≡ raised (log_on l contents) }
 {
-    let senders = l.senders;
-    let level = level_of(l.level, l.safe, &senders);
-    record::marked(l, level, l.safe, l.delivered)
+    let level = level_of(l.level, l.safe, &l.senders);
+    LogHead { level, ..l }
 }

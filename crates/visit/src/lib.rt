@@ -10,12 +10,16 @@ mod flow;
 mod forwarding;
 mod hearing;
 mod held_frames;
+mod held_log;
 mod level;
 mod marks;
 mod new_messages;
 mod remembered;
+mod request_list;
 mod requests;
 mod room;
+mod sent_visit;
+mod token_visit;
 mod visiting;
 
 pub use covering::covers_held;

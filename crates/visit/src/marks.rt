@@ -10,24 +10,6 @@ use record::Turn;
 // More visits than this with oneself as blocker: deaf. The paper's fail_to_rcv_const.
 const DEAF_ABOVE: u8 = 10;
 
-fn is_nobody(b: Blocker) -> bool
-    ensures { result ≡ is_nobody b }
-{
-    match b {
-        Blocker::Nobody => true,
-        Blocker::Member(_) => false,
-    }
-}
-
-fn is_own(own: u16, b: Blocker) -> bool
-    ensures { result ≡ is_own own b }
-{
-    match b {
-        Blocker::Nobody => false,
-        Blocker::Member(id) => id == own,
-    }
-}
-
 // How far everybody has come, as far as the token knows, and who holds it there.
 #[derive(Clone, Copy)]
 pub struct Reach {
@@ -38,7 +20,7 @@ pub struct Reach {
 fn sets_aru(own: u16, level: MessageNumber, aru: MessageNumber, blocker: Blocker) -> bool
     ensures { result ≡ (ltb level.0 aru.0 || own_or_nobody own blocker) }
 {
-    (level.0 < aru.0) | (is_nobody(blocker) | is_own(own, blocker))
+    (level.0 < aru.0) | blocker.is_none() | (blocker == Some(own))
 }
 
 // 4. aru and blocker. Ruled out: aru raised while another is its blocker; a blocker with aru at the highest.
@@ -57,34 +39,31 @@ pub fn reach_after(
     if level.0 == highest.0 {
         return Reach {
             aru: level,
-            blocker: Blocker::Nobody,
+            blocker: None,
         };
     }
     Reach {
         aru: level,
-        blocker: Blocker::Member(own),
+        blocker: Some(own),
     }
 }
 
 // 5. The stall count.
-pub fn stall_after(t: Turn, aru: MessageNumber, blocker: Blocker) -> u8
+pub fn stall_after(t: &Turn, aru: MessageNumber, blocker: Blocker) -> u8
     ensures { result ≡
-        cond (eqb aru.0 t.aru.0 && not (is_nobody blocker)) (min (t.stall + 1) most_stall) 0 }
+        cond (eqb aru.0 t.now.aru.0 && not (is_nobody blocker)) (min (t.now.stall + 1) most_stall) 0 }
 {
-    if (aru.0 != t.aru.0) | is_nobody(blocker) {
+    if (aru.0 != t.aru.0) | blocker.is_none() {
         return 0;
     }
-    if t.stall == u8::MAX {
-        return u8::MAX;
-    }
-    t.stall + 1
+    t.stall.saturating_add(1)
 }
 
-// 5. The id in the notice 'deaf', or 0.
+// 5. The id in the notice 'deaf', or 0, a number as in `Visited`.
 pub fn deaf_after(own: u16, stall: u8, blocker: Blocker) -> u16
     ensures { result ≡ cond (ltb deaf_above stall && is_own own blocker) own 0 }
 {
-    if (DEAF_ABOVE < stall) & is_own(own, blocker) {
+    if (DEAF_ABOVE < stall) & (blocker == Some(own)) {
         own
     } else {
         0
@@ -95,10 +74,5 @@ pub fn deaf_after(own: u16, stall: u8, blocker: Blocker) -> u16
 pub fn safe_after(safe: MessageNumber, before: MessageNumber, aru: MessageNumber) -> MessageNumber
     ensures { result.0 ≡ max safe.0 (min before.0 aru.0) }
 {
-    let both = if before.0 <= aru.0 { before.0 } else { aru.0 };
-    if safe.0 <= both {
-        MessageNumber(both)
-    } else {
-        safe
-    }
+    MessageNumber(safe.0.max(before.0.min(aru.0)))
 }

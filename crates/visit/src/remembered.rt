@@ -12,5 +12,5 @@ pub fn put_remembered(t: Turn, frames: &mut [u8])
     ensures { frames.new ≡ followed_by (remembered t) frames.old }
 {
     let token = t.token;
-    words::put_bytes(frames, 0, &token[0..t.size as usize]);
+    words::put_slice(frames, 0, &token[0..t.size as usize]);
 }

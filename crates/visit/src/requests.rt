@@ -1,23 +1,16 @@
 // Requests: those whose message is held are repeats, the others stay, and missing numbers are added. Steps
 // 2 and 7.
-ghost use Rattle.std.specs.Prelude.{◌≡◌, not, ◌&&◌, List, ◌++◌, ℕ, ◌-◌, ◌≤◌, length, take};
+ghost use Rattle.std.specs.Prelude.{◌≡◌, [], not, ◌&&◌, List, ◌++◌, ℕ, ◌-◌, ◌≤◌, length, take};
 ghost use Rattle.words.specs.Scan.{lacks};
 ghost use Rattle.frames.specs.Number.{most_number};
 ghost use Rattle.frames.specs.Layout.{most_requests};
 ghost use Rattle.record.specs.inner.Head.{log_on};
 ghost use Rattle.record.specs.Held.{holds};
 ghost use Rattle.record.specs.Count.{those, numbers_after};
-ghost use Rattle.visit.specs.inner.Steps.{listed, list_in};
 
+use crate::request_list::Requests;
 use frames::MessageNumber;
 use record::LogHead;
-
-// Up to 16 message numbers, as a token has them: the first `count` places, the others 0.
-#[derive(Clone, Copy)]
-pub struct Requests {
-    pub numbers: [u32; frames::MOST_REQUESTS],
-    pub count: u16,
-}
 
 // Requests apart: those whose message is held, and the rest.
 #[derive(Clone, Copy)]
@@ -26,82 +19,64 @@ pub struct Split {
     pub rest: Requests,
 }
 
-// 2. Ruled out: a request struck off whose message isn't held; the rest in another order.
-pub fn split_requests(l: LogHead, requests: &[u32]) -> Split
-    requires { (l.safe.0 ≤ most_number) × (length requests.now ≤ most_requests) }
-    ensures { (contents : List ℕ) → result ≡ record {
-      held = listed (those (holds (log_on l contents)) requests.now);
-      rest = listed (those (λ n. not (holds (log_on l contents) n)) requests.now);
-    } }
-{
-    let senders = l.senders;
-    let mut held = [0u32; frames::MOST_REQUESTS];
-    let mut rest = [0u32; frames::MOST_REQUESTS];
-    let mut repeats = 0u16;
-    let mut left = 0u16;
-    let mut i = 0;
-    while i < requests.len() {
-        let n = requests[i];
-        if record::is_held(l.safe, &senders, MessageNumber(n)) {
-            let place = repeats as usize;
-            held[place] = n;
-            repeats += 1;
-        } else {
-            let place = left as usize;
-            rest[place] = n;
-            left += 1;
+impl Split {
+    // None yet.
+    pub fn none() -> Split
+        ensures { result ≡ record { held = []; rest = [] } }
+    {
+        Split {
+            held: Requests::none(),
+            rest: Requests::none(),
         }
-        i += 1;
     }
-    Split {
-        held: Requests {
-            numbers: held,
-            count: repeats,
-        },
-        rest: Requests {
-            numbers: rest,
-            count: left,
-        },
+
+    // 2. Ruled out: a request struck off whose message isn't held; the rest in another order.
+    pub fn take(&mut self, l: &LogHead, requests: &[u32])
+        requires { (l.now.safe.0 ≤ most_number)
+            × (length requests.now ≤ most_requests)
+            × (self.old ≡ record { held = []; rest = [] }) }
+        ensures { (contents : List ℕ) → self.new ≡ record {
+          held = those (holds (log_on l.now contents)) requests.now;
+          rest = those (λ n. not (holds (log_on l.now contents) n)) requests.now;
+        } }
+    {
+        for n in requests {
+            if record::is_held(l.safe, &l.senders, MessageNumber(*n)) {
+                self.held.push(*n);
+            } else {
+                self.rest.push(*n);
+            }
+        }
     }
 }
 
 // 7. The numbers above `level` up to `top` that are neither held nor among `asked` are added, lowest first,
 // up to 16. Ruled out: a number asked for twice; the highest first.
 pub fn add_missing(
-    l: LogHead,
-    asked: Requests,
+    l: &LogHead,
+    asked: &Requests,
     level: MessageNumber,
     top: MessageNumber,
 ) -> Requests
-    requires { (l.safe.0 ≤ most_number)
+    requires { (l.now.safe.0 ≤ most_number)
         × (top.0 ≤ most_number)
         × (level.0 ≤ most_number)
-        × (asked ≡ listed (list_in asked))
-        × (asked.count ≤ most_requests) }
-    ensures { (contents : List ℕ) → result ≡ listed (take most_requests
-        (list_in asked ++ those
-        (λ n. not (holds (log_on l contents) n) && lacks (list_in asked) n)
-        (numbers_after level.0 (top.0 - level.0)))) }
+        × (length asked.now ≤ most_requests) }
+    ensures { (contents : List ℕ) → result ≡ take most_requests
+        (asked.now ++ those
+        (λ n. not (holds (log_on l.now contents) n) && lacks asked.now n)
+        (numbers_after level.0 (top.0 - level.0))) }
 {
-    let senders = l.senders;
-    let rest = asked.numbers;
-    let size = asked.count as usize;
-    let mut numbers = asked.numbers;
-    let mut count = asked.count;
-    let mut last = level.0;
-    while last < top.0 {
-        if frames::MOST_REQUESTS <= count as usize {
-            return Requests { numbers, count };
+    let mut all = *asked;
+    for last in level.0..top.0 {
+        if all.is_full() {
+            return all;
         }
         let n = last + 1;
-        let free = !record::is_held(l.safe, &senders, MessageNumber(n));
-        let wanted = free & words::lacks_u32(&rest[0..size], n);
-        if wanted {
-            let place = count as usize;
-            numbers[place] = n;
-            count += 1;
+        let free = !record::is_held(l.safe, &l.senders, MessageNumber(n));
+        if free & words::lacks(asked.as_slice(), n) {
+            all.push(n);
         }
-        last = n;
     }
-    Requests { numbers, count }
+    all
 }

@@ -1,52 +1,51 @@
 -- A loop that tests each element: what is left decides the whole.
-use Prim.Native.Nat.{ℕ, zero, suc, ◌+◌, ◌-◌, ◌<◌, ◌≤◌}
-use mathlib.Core.Path.{◌≡◌, refl, ◌∙◌}
+use Prim.Native.Nat.{ℕ, zero, suc, ◌+◌, ◌<◌, ◌≤◌}
+use mathlib.Core.Path.{◌≡◌, refl, sym, ap, ◌∙◌}
 use mathlib.Core.List.{List, [], ◌∷◌}
 use mathlib.Core.Bool.{Bool, true, false, ◌&&◌}
 use borrow.Author.Tests.{leb-true}
 use native.Mathlib.Numerals.{add-one}
 use native.Mathlib.Omega.{arith}
-use lib.ListN.{length, get_or, take, drop, replicate, length-drop, drop_of_length-le}
+use lib.ListN.{length, get_or, drop, replicate, drop_of_length-le}
 use lib.Dec.{leb}
-use lib.Seq.{drop-cons, take_all}
+use lib.Seq.{drop-cons}
 use Rattle.words.specs.Scan.{every, all_within, all_zero}
 
 -- the elements before i have passed
-pub record Scanning (test : ℕ → List ℕ → Bool) (s : List ℕ) (i : ℕ) : Type 0 where
+pub record Scanning {A : Type 0} (test : A → List A → Bool) (s : List A) (i : ℕ) : Type 0 where
   pub within : i ≤ length s
   pub rest : every test (drop i s) ≡ every test s
 
-pub scan-starts : (test : ℕ → List ℕ → Bool) (s : List ℕ) → Scanning test s 0
-scan-starts test s = record { within = omega arith; rest = refl }
+module _ {A : Type 0} (test : A → List A → Bool) (s : List A) where
+  pub scan-starts : Scanning test s 0
+  scan-starts = record { within = omega arith; rest = refl }
 
-module _ (test : ℕ → List ℕ → Bool) (s : List ℕ) (i : ℕ) (so_far : Scanning test s i) where
-  -- the test fails at i
-  pub scan-stops : i < length s → test (get_or s i 0) (drop (i + 1) s) ≡ false → false ≡ every test s
-  unfolding every
-  scan-stops h f = rw (drop-cons s i 0 h, rw (add-one i) at f) at so_far.rest
+  module _ (i : ℕ) (so_far : Scanning test s i) where
+    -- the test of the element at i decides
+    scan-here : (x : A) → i < length s → x ≡ get_or s i x → test x (drop (i + 1) s) && every test (drop (i + 1) s) ≡ every test s
+    unfolding every
+    scan-here x h here =
+        let split : drop i s ≡ x ∷ drop (i + 1) s = rw add-one (drop-cons s i x h ∙ ap (λ y. y ∷ drop (suc i) s) (sym here)) in
+        rw split at so_far.rest
 
-  -- it holds at i
-  pub scan-goes : i < length s → test (get_or s i 0) (drop (i + 1) s) ≡ true → Scanning test s (i + 1)
-  unfolding every
-  scan-goes h f =
-      record {
-        within = omega arith;
-        rest = rw (add-one i) (rw (drop-cons s i 0 h, rw (add-one i) at f) at so_far.rest);
-      }
+    -- it fails
+    pub scan-stops : (x : A) → i < length s → x ≡ get_or s i x → test x (drop (i + 1) s) ≡ false → false ≡ every test s
+    scan-stops x h here f = rw f at (scan-here x h here)
 
-  -- nothing is left
-  pub scan-ends : length s ≤ i → true ≡ every test s
-  unfolding every
-  scan-ends h = rw (drop_of_length-le s h) at so_far.rest
+    -- it holds
+    pub scan-goes : (x : A) → i < length s → x ≡ get_or s i x → test x (drop (i + 1) s) ≡ true → Scanning test s (i + 1)
+    scan-goes x h here f = record { within = omega arith; rest = rw f at (scan-here x h here) }
+
+    -- nothing is left
+    pub scan-ends : length s ≤ i → true ≡ every test s
+    unfolding every
+    scan-ends h = rw (drop_of_length-le s h) at so_far.rest
 
 -- ---- a loop with no way out: what was found so far, and what is left
 
-pub record Gathering (test : ℕ → List ℕ → Bool) (s : List ℕ) (good : Bool) (i : ℕ) : Type 0 where
+pub record Gathering {A : Type 0} (test : A → List A → Bool) (s : List A) (good : Bool) (i : ℕ) : Type 0 where
   pub within : i ≤ length s
   pub rest : good && every test (drop i s) ≡ every test s
-
-pub gather-starts : (test : ℕ → List ℕ → Bool) (s : List ℕ) → Gathering test s true 0
-gather-starts test s = record { within = omega arith; rest = refl }
 
 regrouped : (a b c : Bool) → (a && b) && c ≡ a && (b && c)
 regrouped true b c = refl
@@ -56,22 +55,23 @@ all_found : (good : Bool) → good ≡ good && true
 all_found true = refl
 all_found false = refl
 
-module _ (test : ℕ → List ℕ → Bool) (s : List ℕ) (good : Bool) (i : ℕ) (so_far : Gathering test s good i) where
-  pub gather-goes : i < length s → Gathering test s (good && test (get_or s i 0) (drop (i + 1) s)) (i + 1)
-  unfolding every
-  gather-goes h =
-      record {
-        within = omega arith;
-        rest = regrouped good (test (get_or s i 0) (drop (i + 1) s)) (every test (drop (i + 1) s)) ∙ rw (add-one i) (rw (drop-cons s i 0 h) at so_far.rest);
-      }
+module _ {A : Type 0} (test : A → List A → Bool) (s : List A) where
+  pub gather-starts : Gathering test s true 0
+  gather-starts = record { within = omega arith; rest = refl }
 
-  pub gather-ends : length s ≤ i → good ≡ every test s
-  unfolding every
-  gather-ends h = all_found good ∙ rw (drop_of_length-le s h) at so_far.rest
+  module _ (good : Bool) (i : ℕ) (so_far : Gathering test s good i) where
+    pub gather-goes : (x : A) (also : Bool) → i < length s → x ≡ get_or s i x → also ≡ test x (drop (i + 1) s) → Gathering test s (good && also) (i + 1)
+    unfolding every
+    gather-goes x also h here e =
+        let split : drop i s ≡ x ∷ drop (i + 1) s = rw add-one (drop-cons s i x h ∙ ap (λ y. y ∷ drop (suc i) s) (sym here)) in
+        record {
+          within = omega arith;
+          rest = rw e (regrouped good (test x (drop (i + 1) s)) (every test (drop (i + 1) s)) ∙ rw split at so_far.rest);
+        }
 
--- a part to the end, as the code spells it
-pub to-end : (s : List ℕ) (i : ℕ) → take (length s - i) (drop i s) ≡ drop i s
-to-end s i = take_all (length s - i) (drop i s) (simp length-drop (omega arith))
+    pub gather-ends : length s ≤ i → good ≡ every test s
+    unfolding every
+    gather-ends h = all_found good ∙ rw (drop_of_length-le s h) at so_far.rest
 
 -- ---- what a scan that passed tells
 

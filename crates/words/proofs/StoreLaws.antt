@@ -1,12 +1,14 @@
 -- Stores one after another: what several calls leave, as one list of bytes stored at one place.
-use Prim.Native.Nat.{ℕ, suc, ◌+◌, ◌-◌, ◌≤◌}
+use Prim.Native.Nat.{ℕ, suc, ◌+◌, ◌-◌, ◌<◌, ◌≤◌}
 use mathlib.Core.Path.{◌≡◌, refl, sym, ap, ◌∙◌}
-use mathlib.Core.List.{List, [], ◌∷◌, ◌++◌, append_assoc}
-use native.Mathlib.Nat.{add-zero, add-suc, suc-add, zero-add}
+use mathlib.Core.List.{List, [], ◌∷◌, ◌++◌, append_assoc, append-nil}
+use native.Mathlib.Nat.{add-sub_cancel_left, add-zero, add-suc, suc-add, zero-add}
 use native.Mathlib.Omega.{arith}
-use lib.ListN.{length, set, take, drop, length-append, length-drop, take-append-drop}
-use Rattle.words.proofs.ScanLaws.{to-end}
-use lib.Seq.{sets, sets-eq, length-sets, take_at, drop_at, take-add, drop-drop, length-take-le, take_all, take-append-le}
+use native.Mathlib.Numerals.{add-one}
+use lib.ListN.{replicate, length-replicate, get_or, length-take, length-set, drop_of_length-le, length, set, take, drop, length-append, length-drop, take-append-drop}
+use borrow.Rule.Slice.PartMut.{put_mid}
+use Rattle.std.proofs.lemmas.List.{take_rest}
+use lib.Seq.{drop-cons, sets, sets-eq, length-sets, take_at, drop_at, take-add, drop-drop, length-take-le}
 
 pub sets-append : (a b l : List ℕ) (i : ℕ) → sets l i (a ++ b) ≡ sets (sets l i a) (i + length a) b
 sets-append [] b l i = rw add-zero
@@ -33,8 +35,37 @@ stored_next {l} {at} {p} {n} {l₁} k q l₂ first long e =
     }
 
 -- stored at the front, they are followed by what stood there
-pub front-stored : (n : ℕ) (xs out : List ℕ) → length xs ≡ n → n ≤ length out → sets out 0 xs ≡ xs ++ drop n out
+pub front-stored : {A : Type 0} (n : ℕ) (xs out : List A) → length xs ≡ n → n ≤ length out → sets out 0 xs ≡ xs ++ drop n out
 front-stored n xs out size room = sets-eq xs out 0 (omega arith) ∙ rw (size, zero-add)
+
+-- the part from `at` to at + n, as the code spells it, stored at the front
+pub part-stored : {A : Type 0} (at n : ℕ) (s out out' : List A) → at + n ≤ length s → n ≤ length out → out' ≡ sets out 0 (take (at + n - at) (drop at s)) → out' ≡ take n (drop at s) ++ drop n out
+part-stored at n s out out' inside room e =
+    let size : length (take n (drop at s)) ≡ n = simp (length-take, length-drop) (omega arith) in
+    rw add-sub_cancel_left at e ∙ front-stored n (take n (drop at s)) out size room
+
+-- ---- a loop that copies xs into out₀ from `at` on
+
+pub record Copying {A : Type 0} (at : ℕ) (xs out₀ : List A) (i : ℕ) (out : List A) : Type 0 where
+  pub within : i ≤ length xs
+  pub size : length out ≡ length out₀
+  pub rest : sets out (at + i) (drop i xs) ≡ sets out₀ at xs
+
+module _ {A : Type 0} (at : ℕ) (xs out₀ : List A) where
+  pub copying-starts : Copying at xs out₀ 0 out₀
+  copying-starts = record { within = omega arith; size = refl; rest = rw add-zero }
+
+  pub copying-goes : (i : ℕ) (out : List A) (x : A) → Copying at xs out₀ i out → i < length xs → x ≡ get_or xs i x → Copying at xs out₀ (i + 1) (set out (at + i) x)
+  copying-goes i out x r h here =
+      let split : drop i xs ≡ x ∷ drop (suc i) xs = drop-cons xs i x h ∙ ap (λ y. y ∷ drop (suc i) xs) (sym here) in
+      record { within = omega arith; size = length-set out (at + i) x ∙ r.size; rest = rw (add-one i, add-suc) (rw split at r.rest) }
+
+  pub copying-ends : (i : ℕ) (out : List A) → Copying at xs out₀ i out → length xs ≤ i → out ≡ sets out₀ at xs
+  copying-ends i out r h = rw (drop_of_length-le xs h) at r.rest
+
+-- all of a part replaced by xs, as a copy into it leaves the list
+pub placed : {A : Type 0} (at k : ℕ) (out xs ys : List A) → k ≡ length xs → ys ≡ xs → at + length xs ≤ length out → put_mid at k out ys ≡ sets out at xs
+placed at k out xs ys size e room = rw (size, e, drop-drop, ← append_assoc) (sym (sets-eq xs out at room))
 
 -- ---- pieces that overlap
 
@@ -84,30 +115,32 @@ next-piece l xs l' at i k h e =
     let long : length (take i xs) ≡ i = length-take-le i xs h in
     e ∙ rw (take-add i k xs, sets-append (take i xs) (take k (drop i xs)) l at, long)
 
--- ---- as the code spells them: a piece goes by way of the front of an array, and what is left of xs is a part to the end
+-- a whole list replaced
+all-over : {A : Type 0} (xs out : List A) → length out ≡ length xs → sets out 0 xs ≡ xs
+all-over xs out size =
+    let none : drop (length xs) out ≡ [] = drop_of_length-le out (omega arith) in
+    front-stored (length xs) xs out refl (omega arith) ∙ rw (none, append-nil)
 
-pub piece-put : (l l' piece xs rest : List ℕ) (at k : ℕ) → k ≤ length xs → piece ≡ take k xs ++ rest → l' ≡ sets l at (take k piece) → l' ≡ sets l at (take k xs)
-piece-put l l' piece xs rest at k few e f =
-    let long : length (take k xs) ≡ k = length-take-le k xs few in
-    let is : take k piece ≡ take k xs = ap (take k) e ∙ take-append-le k (take k xs) rest (omega (arith, long)) ∙ take_all k (take k xs) (omega (arith, long)) in
-    f ∙ ap (λ (ys : List ℕ). sets l at ys) is
+-- a piece goes by way of an array of just its size
+pub piece-put : (n : ℕ) (l l' piece xs : List ℕ) (at : ℕ) → length xs ≡ n → piece ≡ sets (replicate n 0) 0 xs → l' ≡ sets l at piece → l' ≡ sets l at xs
+piece-put n l l' piece xs at size e f =
+    let long : length (replicate n 0) ≡ length xs = length-replicate n 0 ∙ sym size in
+    f ∙ ap (λ ys. sets l at ys) (e ∙ all-over xs (replicate n 0) long)
+
+-- ---- as the code spells them: a piece is a part of k bytes, and what is left of xs a part to the end
 
 pub piece-goes : (l xs l₁ l₂ : List ℕ) (at i k : ℕ)
     → i ≤ length xs
     → l₁ ≡ sets l at (take i xs)
-    → l₂ ≡ sets l₁ (at + i) (take k (take (length xs - i) (drop i xs)))
+    → l₂ ≡ sets l₁ (at + i) (take (i + k - i) (drop i xs))
     → l₂ ≡ sets l at (take (i + k) xs)
-piece-goes l xs l₁ l₂ at i k h e f = next-piece l xs l₂ at i k h (f ∙ rw (e, to-end xs i))
+piece-goes l xs l₁ l₂ at i k h e f = next-piece l xs l₂ at i k h (f ∙ rw (e, add-sub_cancel_left))
 
-pub piece-ends : (l xs l₁ l₂ : List ℕ) (at i k : ℕ)
-    → k ≤ length xs
+pub piece-ends : (l xs l₁ l₂ : List ℕ) (at i m : ℕ)
+    → m ≤ i
     → i ≤ length xs
-    → length xs ≤ i + k
     → at + length xs ≤ length l
     → l₁ ≡ sets l at (take i xs)
-    → l₂ ≡ sets l₁ (at + (length xs - k)) (take k (take (length xs - (length xs - k)) (drop (length xs - k) xs)))
+    → l₂ ≡ sets l₁ (at + m) (take (length xs - m) (drop m xs))
     → l₂ ≡ sets l at xs
-piece-ends l xs l₁ l₂ at i k few h near room e f =
-    let m = length xs - k in
-    let all : take k (drop m xs) ≡ drop m xs = take_all k (drop m xs) (rw length-drop (omega arith)) in
-    f ∙ rw (e, to-end xs m, all) (overlap l xs at i m (omega arith) h room)
+piece-ends l xs l₁ l₂ at i m near h room e f = f ∙ rw (e, take_rest xs m) (overlap l xs at i m near h room)

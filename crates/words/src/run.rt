@@ -1,81 +1,57 @@
-// Runs of words, read from a byte slice into numbers or stored from numbers into it. Ruled out: one
-// word too few; a place past the run changed.
+// Runs of words, read from a byte slice into numbers or stored from numbers into it, and parts of one slice
+// copied into another. Ruled out: one word too few; a place past the run changed.
 ghost use Rattle.std.specs.Prelude.{◌≡◌, ◌++◌, ◌+◌, ◌*◌, ◌≤◌, ◌<◌, length, take, drop};
 ghost use Rattle.std.proofs.lemmas.List.Edits.{sets};
-ghost use Rattle.words.specs.Run.{words, words_bytes};
+ghost use Rattle.words.specs.Run.{words_as, bytes_as};
 
-use crate::word::{get_u16, get_u32, put_u16, put_u32};
-
-// The n bytes of s from `at` on go to the front of out.
-pub fn get_bytes(s: &[u8], at: usize, n: usize, out: &mut [u8])
-    requires { (at + n ≤ length s.now) × (n ≤ length out.old) }
-    ensures { out.new ≡ take n (drop at s.now) ++ drop n out.old }
-{
-    put_bytes(out, 0, &s[at..at + n]);
-}
+use crate::word::Word;
 
 // The n words of s from `at` on go to the front of out.
-pub fn get_u16s(s: &[u8], at: usize, n: usize, out: &mut [u16])
-    requires { (at + 2 * n ≤ length s.now) × (n ≤ length out.old) }
-    ensures { out.new ≡ words 2 n (drop at s.now) ++ drop n out.old }
+pub fn get_run<W: Word>(s: &[u8], at: usize, n: usize, out: &mut [W])
+    requires { (at + W.SIZE * n ≤ length s.now) × (n ≤ length out.old) }
+    ensures { out.new ≡ words_as W.of W.SIZE n (drop at s.now) ++ drop n out.old }
 {
-    let mut i = 0;
-    while i < n {
-        out[i] = get_u16(s, at + 2 * i);
-        i += 1;
+    for i in 0..n {
+        out[i] = W::get(s, at + W::SIZE * i);
     }
 }
 
-pub fn get_u32s(s: &[u8], at: usize, n: usize, out: &mut [u32])
-    requires { (at + 4 * n ≤ length s.now) × (n ≤ length out.old) }
-    ensures { out.new ≡ words 4 n (drop at s.now) ++ drop n out.old }
+pub fn put_run<W: Word>(out: &mut [u8], at: usize, xs: &[W])
+    requires { at + W.SIZE * length xs.now ≤ length out.old }
+    ensures { out.new ≡ sets out.old at (bytes_as W.value W.SIZE xs.now) }
 {
-    let mut i = 0;
-    while i < n {
-        out[i] = get_u32(s, at + 4 * i);
-        i += 1;
+    for (i, x) in xs.iter().enumerate() {
+        W::put(out, at + W::SIZE * i, *x);
     }
 }
 
-// Numbers of two bytes among others.
-fn store_u16s(out: &mut [u16], at: usize, xs: &[u16])
+// All of xs, from `at` on. std's `copy_from_slice` does the same and was tried: its machine code asks at run time
+// whether the two overlap and has a second loop for that, and a visit took 1.12 of the oracle's time.
+pub fn put_slice<T: Copy>(out: &mut [T], at: usize, xs: &[T])
     requires { at + length xs.now ≤ length out.old }
     ensures { out.new ≡ sets out.old at xs.now }
 {
-    let mut i = 0;
-    while i < xs.len() {
-        out[at + i] = xs[i];
-        i += 1;
+    for (i, x) in xs.iter().enumerate() {
+        out[at + i] = *x;
     }
 }
 
-// The n numbers of s from `at` on go to the front of out.
-pub fn copy_u16s(s: &[u16], at: usize, n: usize, out: &mut [u16])
+// The n elements of s from `at` on go to the front of out.
+pub fn get_slice<T: Copy>(s: &[T], at: usize, n: usize, out: &mut [T])
     requires { (at + n ≤ length s.now) × (n ≤ length out.old) }
     ensures { out.new ≡ take n (drop at s.now) ++ drop n out.old }
 {
-    store_u16s(out, 0, &s[at..at + n]);
+    put_slice(out, 0, &s[at..at + n]);
 }
 
-pub fn put_bytes(out: &mut [u8], at: usize, xs: &[u8])
-    requires { at + length xs.now ≤ length out.old }
+// N bytes, by way of an array: the compiler knows that it overlaps nothing.
+fn put_piece<const N: usize>(out: &mut [u8], at: usize, xs: &[u8])
+    requires { (length xs.now ≡ N) × (at + N ≤ length out.old) }
     ensures { out.new ≡ sets out.old at xs.now }
 {
-    let mut i = 0;
-    while i < xs.len() {
-        out[at + i] = xs[i];
-        i += 1;
-    }
-}
-
-// The first n bytes of xs, at most 16, by way of an array: the compiler knows that it overlaps nothing.
-fn put_piece(out: &mut [u8], at: usize, xs: &[u8], n: usize)
-    requires { (n ≤ 16) × (n ≤ length xs.now) × (at + n ≤ length out.old) }
-    ensures { out.new ≡ sets out.old at (take n xs.now) }
-{
-    let mut piece = [0u8; 16];
-    get_bytes(xs, 0, n, &mut piece);
-    put_bytes(out, at, &piece[0..n]);
+    let mut piece = [0u8; N];
+    put_slice(&mut piece, 0, xs);
+    put_slice(out, at, &piece);
 }
 
 // Fewer than 16 bytes: the first 8 and the last 8, which may overlap, or one by one.
@@ -85,14 +61,14 @@ fn put_few(out: &mut [u8], at: usize, xs: &[u8])
 {
     let n = xs.len();
     if n < 8 {
-        put_bytes(out, at, xs);
+        put_slice(out, at, xs);
         return;
     }
-    put_piece(out, at, xs, 8);
-    put_piece(out, at + (n - 8), &xs[n - 8..], 8);
+    put_piece::<8>(out, at, &xs[..8]);
+    put_piece::<8>(out, at + (n - 8), &xs[n - 8..]);
 }
 
-// The same as put_bytes, for a number of bytes that the compiler does not know: 16 at a time, and the last 16
+// The same as put_slice, for a number of bytes that the compiler does not know: 16 at a time, and the last 16
 // again from wherever they begin.
 pub fn put_many(out: &mut [u8], at: usize, xs: &[u8])
     requires { at + length xs.now ≤ length out.old }
@@ -103,32 +79,8 @@ pub fn put_many(out: &mut [u8], at: usize, xs: &[u8])
         put_few(out, at, xs);
         return;
     }
-    let mut i = 0;
-    while i + 16 <= n {
-        put_piece(out, at + i, &xs[i..], 16);
-        i += 16;
+    for i in (0..n - 15).step_by(16) {
+        put_piece::<16>(out, at + i, &xs[i..i + 16]);
     }
-    put_piece(out, at + (n - 16), &xs[n - 16..], 16);
-}
-
-pub fn put_u16s(out: &mut [u8], at: usize, xs: &[u16])
-    requires { at + 2 * length xs.now ≤ length out.old }
-    ensures { out.new ≡ sets out.old at (words_bytes 2 xs.now) }
-{
-    let mut i = 0;
-    while i < xs.len() {
-        put_u16(out, at + 2 * i, xs[i]);
-        i += 1;
-    }
-}
-
-pub fn put_u32s(out: &mut [u8], at: usize, xs: &[u32])
-    requires { at + 4 * length xs.now ≤ length out.old }
-    ensures { out.new ≡ sets out.old at (words_bytes 4 xs.now) }
-{
-    let mut i = 0;
-    while i < xs.len() {
-        put_u32(out, at + 4 * i, xs[i]);
-        i += 1;
-    }
+    put_piece::<16>(out, at + (n - 16), &xs[n - 16..]);
 }

@@ -1,120 +1,47 @@
-// Tests of a whole slice, at each width that the crates above need. Ruled out: the last element not
-// looked at; a bound itself refused. A test of ranges looks at every element, with no way out of the loop,
-// so that the compiler can test many at once.
-ghost use Rattle.std.specs.Prelude.{◌≡◌};
-ghost use Rattle.words.specs.Scan.{all_within, all_zero, lacks, distinct};
+// Tests of a whole slice. Ruled out: the last element not looked at; a bound itself refused. A test of
+// ranges looks at every element, with no way out of the loop, so that the compiler can test many at once.
+ghost use Rattle.std.specs.Prelude.{◌≡◌, ◌&&◌, leb};
+ghost use Rattle.words.specs.Scan.{all_within_as, lacks_by, distinct_by};
 
-pub fn all_within_u8(s: &[u8], low: u8, high: u8) -> bool
-    ensures { result ≡ all_within low high s.now }
+use crate::word::Word;
+
+pub fn all_within<W: Word>(s: &[W], low: W, high: W) -> bool
+    ensures { result ≡ all_within_as W.value (W.value low) (W.value high) s.now }
 {
     let mut good = true;
-    let mut i = 0;
-    while i < s.len() {
-        let x = s[i];
-        good = good & ((low <= x) & (x <= high));
-        i += 1;
+    for x in s {
+        good = good & x.is_within(low, high);
     }
     good
 }
 
-pub fn all_zero_u8(s: &[u8]) -> bool
-    ensures { result ≡ all_zero s.now }
+pub fn all_zero<W: Word>(s: &[W]) -> bool
+    ensures { result ≡ all_within_as W.value 0 0 s.now }
 {
-    all_within_u8(s, 0, 0)
+    all_within(s, W::ZERO, W::ZERO)
 }
 
-pub fn all_within_u16(s: &[u16], low: u16, high: u16) -> bool
-    ensures { result ≡ all_within low high s.now }
+// x is not among them. std's `contains` tells the same; tried here and in `distinct`, it stayed a call of its own at eleven
+// places, and founding took 1.02 to 1.09 times the oracle's time in place of 0.88 to 0.94.
+pub fn lacks<T: Copy + PartialEq>(s: &[T], x: T) -> bool
+    ensures { result ≡ lacks_by T.eq s.now x }
 {
-    let mut good = true;
-    let mut i = 0;
-    while i < s.len() {
-        let x = s[i];
-        good = good & ((low <= x) & (x <= high));
-        i += 1;
-    }
-    good
-}
-
-pub fn all_zero_u16(s: &[u16]) -> bool
-    ensures { result ≡ all_zero s.now }
-{
-    all_within_u16(s, 0, 0)
-}
-
-pub fn all_within_u32(s: &[u32], low: u32, high: u32) -> bool
-    ensures { result ≡ all_within low high s.now }
-{
-    let mut good = true;
-    let mut i = 0;
-    while i < s.len() {
-        let x = s[i];
-        good = good & ((low <= x) & (x <= high));
-        i += 1;
-    }
-    good
-}
-
-pub fn all_zero_u32(s: &[u32]) -> bool
-    ensures { result ≡ all_zero s.now }
-{
-    all_within_u32(s, 0, 0)
-}
-
-pub fn lacks_u16(s: &[u16], x: u16) -> bool
-    ensures { result ≡ lacks s.now x }
-{
-    let mut i = 0;
-    while i < s.len() {
-        let differs = s[i] != x;
-        if !differs {
+    for y in s {
+        if *y == x {
             return false;
         }
-        i += 1;
     }
     true
 }
 
 // None stands twice.
-pub fn distinct_u16(s: &[u16]) -> bool
-    ensures { result ≡ distinct s.now }
+pub fn distinct<T: Copy + PartialEq>(s: &[T]) -> bool
+    ensures { result ≡ distinct_by T.eq s.now }
 {
-    let mut i = 0;
-    while i < s.len() {
-        let once = lacks_u16(&s[i + 1..], s[i]);
-        if !once {
+    for (i, x) in s.iter().enumerate() {
+        if !lacks(&s[i + 1..], *x) {
             return false;
         }
-        i += 1;
-    }
-    true
-}
-
-pub fn lacks_u32(s: &[u32], x: u32) -> bool
-    ensures { result ≡ lacks s.now x }
-{
-    let mut i = 0;
-    while i < s.len() {
-        let differs = s[i] != x;
-        if !differs {
-            return false;
-        }
-        i += 1;
-    }
-    true
-}
-
-// None stands twice.
-pub fn distinct_u32(s: &[u32]) -> bool
-    ensures { result ≡ distinct s.now }
-{
-    let mut i = 0;
-    while i < s.len() {
-        let once = lacks_u32(&s[i + 1..], s[i]);
-        if !once {
-            return false;
-        }
-        i += 1;
     }
     true
 }

@@ -1,5 +1,5 @@
 -- Document 01's frames and their borders, as one table. proofs/Trials.antt computes it from the definitions.
-use Rattle.std.specs.Prelude.{ℕ, zero, suc, ◌-◌, Bool, true, false, ◌&&◌, List, [], ◌∷◌, ◌++◌, length, set, take, replicate, eqb}
+use Rattle.std.specs.Prelude.{ℕ, zero, suc, ◌-◌, Bool, true, false, ◌&&◌, List, [], ◌∷◌, ◌++◌, length, set, take, replicate, eqb, Option, Some, None}
 use Rattle.frames.specs.Layout.{most_requests}
 use Rattle.frames.specs.Message.{message_bytes}
 use Rattle.frames.specs.Token.{numbered, token_bytes}
@@ -8,8 +8,6 @@ use Rattle.frames.specs.Write.{Writing, message_written, token_written}
 use Rattle.frames.specs.declared.header.Header.{Header}
 use Rattle.frames.specs.declared.message.Message.{Message}
 use Rattle.frames.specs.declared.token.Token.{Token}
-use Rattle.frames.specs.declared.token.Blocker.{Blocker}
-use Rattle.frames.specs.declared.token.Blocker.TheVariants.{Nobody, Member}
 
 -- ---- what a row says; a number is that of the question answered 'no', 0 for none
 
@@ -25,7 +23,7 @@ pub data FrameTrial : Type 0 where
   are : List ℕ → List ℕ → FrameTrial
 
 abbrev pub reads_as : List ℕ → ℕ → Bool
-reads_as frame number = eqb (answer_number (read_of frame).answer) number
+reads_as frame number = eqb (answer_number (read_of frame)) number
 
 abbrev pub writes_as : Writing → ℕ → ℕ → Bool
 writes_as w number count = eqb w.outcome.number number && eqb w.outcome.count count
@@ -61,7 +59,7 @@ abbrev pub sample_message : ℕ → ℕ → Message
 sample_message n service = record { header = header 4; sender = 7; number = record { 0 = n }; service = service }
 
 -- a token to 3: ring number, token number, highest, aru, blocker, round count, backlog, and a count of requests with its places
-abbrev pub token_with : ℕ → ℕ → ℕ → ℕ → Blocker → ℕ → ℕ → ℕ → List ℕ → Token
+abbrev pub token_with : ℕ → ℕ → ℕ → ℕ → Option ℕ → ℕ → ℕ → ℕ → List ℕ → Token
 token_with ring n highest aru blocker round backlog count requests =
     record {
       header = header ring;
@@ -77,7 +75,7 @@ token_with ring n highest aru blocker round backlog count requests =
     }
 
 -- a token of ring 4 and number 1 with backlog 0 and these requests: highest, aru, blocker, round count, requests
-abbrev pub sample_token : ℕ → ℕ → Blocker → ℕ → List ℕ → Token
+abbrev pub sample_token : ℕ → ℕ → Option ℕ → ℕ → List ℕ → Token
 sample_token highest aru blocker round requests = token_with 4 1 highest aru blocker round 0 (length requests) requests
 
 abbrev pub from1to : ℕ → List ℕ
@@ -93,7 +91,7 @@ first_bytes =
 
 unfoldable pub frame_trials : List FrameTrial
 frame_trials =
-    are (token_bytes (sample_token 0 0 Nobody 0 [])) first_bytes
+    are (token_bytes (sample_token 0 0 None 0 [])) first_bytes
     -- messages
     ∷ message (sample_message 1 0) [] 0 22  -- no content
     ∷ message (sample_message 1 1) (replicate 64 111) 0 86  -- 64 bytes
@@ -103,32 +101,32 @@ frame_trials =
     ∷ message (sample_message 2000000000 0) [] 0 22  -- the largest number
     ∷ message (sample_message 2000000001 0) [] 12 0  -- one more
     -- tokens
-    ∷ token (token_with 2000000000 1 0 0 Nobody 0 0 0 []) 0 32  -- ring number
-    ∷ token (token_with 2000000001 1 0 0 Nobody 0 0 0 []) 12 0
-    ∷ token (token_with 4 2000000000 0 0 Nobody 0 0 0 []) 0 32  -- token number
-    ∷ token (token_with 4 2000000001 0 0 Nobody 0 0 0 []) 12 0
-    ∷ token (sample_token 2000000000 2000000000 Nobody 0 []) 0 32  -- highest
-    ∷ token (sample_token 2000000001 2000000001 Nobody 0 []) 12 0
-    ∷ token (sample_token 10 5 (Member 7) 0 []) 0 32
-    ∷ token (sample_token 10 11 (Member 7) 0 []) 12 0  -- aru above the highest
-    ∷ token (sample_token 10 10 (Member 7) 0 []) 12 0  -- a blocker with aru equal to the highest
-    ∷ token (sample_token 10 9 Nobody 0 []) 12 0  -- nobody with aru below it
-    ∷ token (sample_token 10 5 (Member 0) 0 []) 12 0  -- a blocker with id 0
-    ∷ token (sample_token 10 5 (Member 7) 128 []) 0 32  -- round count 128
-    ∷ token (sample_token 10 5 (Member 7) 129 []) 12 0  -- 129
-    ∷ token (token_with 4 1 10 5 (Member 7) 0 128 0 []) 0 32  -- backlog 128
-    ∷ token (token_with 4 1 10 5 (Member 7) 0 129 0 []) 12 0  -- 129
-    ∷ token (sample_token 20 0 (Member 7) 0 (from1to 16)) 0 96  -- 16 requests
-    ∷ reads (token_bytes (sample_token 20 0 (Member 7) 0 (from1to 17))) 12  -- 17 in a frame
-    ∷ writes (token_written (token_with 4 1 20 0 (Member 7) 0 0 17 (from1to 16)) room) 12  -- 17 counted in 16 places
-    ∷ writes (token_written (token_with 4 1 20 0 (Member 7) 0 0 1 (6 ∷ 8 ∷ [])) room) 12  -- a place that is not counted and not zero
-    ∷ token (sample_token 10 5 (Member 7) 0 (6 ∷ 8 ∷ 6 ∷ [])) 12 0  -- a request twice
-    ∷ token (sample_token 10 5 (Member 7) 0 (6 ∷ 10 ∷ [])) 0 40
-    ∷ token (sample_token 10 5 (Member 7) 0 (6 ∷ 11 ∷ [])) 12 0  -- a request above the highest
-    ∷ token (sample_token 10 5 (Member 7) 0 (0 ∷ [])) 12 0  -- a request 0
+    ∷ token (token_with 2000000000 1 0 0 None 0 0 0 []) 0 32  -- ring number
+    ∷ token (token_with 2000000001 1 0 0 None 0 0 0 []) 12 0
+    ∷ token (token_with 4 2000000000 0 0 None 0 0 0 []) 0 32  -- token number
+    ∷ token (token_with 4 2000000001 0 0 None 0 0 0 []) 12 0
+    ∷ token (sample_token 2000000000 2000000000 None 0 []) 0 32  -- highest
+    ∷ token (sample_token 2000000001 2000000001 None 0 []) 12 0
+    ∷ token (sample_token 10 5 (Some 7) 0 []) 0 32
+    ∷ token (sample_token 10 11 (Some 7) 0 []) 12 0  -- aru above the highest
+    ∷ token (sample_token 10 10 (Some 7) 0 []) 12 0  -- a blocker with aru equal to the highest
+    ∷ token (sample_token 10 9 None 0 []) 12 0  -- nobody with aru below it
+    ∷ token (sample_token 10 5 (Some 0) 0 []) 12 0  -- a blocker with id 0
+    ∷ token (sample_token 10 5 (Some 7) 128 []) 0 32  -- round count 128
+    ∷ token (sample_token 10 5 (Some 7) 129 []) 12 0  -- 129
+    ∷ token (token_with 4 1 10 5 (Some 7) 0 128 0 []) 0 32  -- backlog 128
+    ∷ token (token_with 4 1 10 5 (Some 7) 0 129 0 []) 12 0  -- 129
+    ∷ token (sample_token 20 0 (Some 7) 0 (from1to 16)) 0 96  -- 16 requests
+    ∷ reads (token_bytes (sample_token 20 0 (Some 7) 0 (from1to 17))) 12  -- 17 in a frame
+    ∷ writes (token_written (token_with 4 1 20 0 (Some 7) 0 0 17 (from1to 16)) room) 12  -- 17 counted in 16 places
+    ∷ writes (token_written (token_with 4 1 20 0 (Some 7) 0 0 1 (6 ∷ 8 ∷ [])) room) 12  -- a place that is not counted and not zero
+    ∷ token (sample_token 10 5 (Some 7) 0 (6 ∷ 8 ∷ 6 ∷ [])) 12 0  -- a request twice
+    ∷ token (sample_token 10 5 (Some 7) 0 (6 ∷ 10 ∷ [])) 0 40
+    ∷ token (sample_token 10 5 (Some 7) 0 (6 ∷ 11 ∷ [])) 12 0  -- a request above the highest
+    ∷ token (sample_token 10 5 (Some 7) 0 (0 ∷ [])) 12 0  -- a request 0
     -- the buffer
-    ∷ writes (token_written (sample_token 0 0 Nobody 0 []) (replicate 31 0)) 1  -- one byte short
-    ∷ writes (token_written (sample_token 0 1 Nobody 0 []) []) 12  -- 12 goes before 1
+    ∷ writes (token_written (sample_token 0 0 None 0 []) (replicate 31 0)) 1  -- one byte short
+    ∷ writes (token_written (sample_token 0 1 None 0 []) []) 12  -- 12 goes before 1
     -- any bytes
     ∷ reads first_bytes 0
     ∷ reads [] 10

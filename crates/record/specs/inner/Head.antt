@@ -90,6 +90,10 @@ head_of l =
       lengths = l.held.lengths;
     }
 
+-- the head of the waiting posts
+abbrev pub posts_head : Posts → PostsHead
+posts_head p = record { count = p.count; services = p.services; lengths = p.lengths }
+
 -- the head of a record
 abbrev pub record_head : Record → Head
 record_head r =
@@ -97,5 +101,5 @@ record_head r =
       own = r.own;
       log = head_of r.log;
       turn = r.turn;
-      posts = record { count = r.posts.count; services = r.posts.services; lengths = r.posts.lengths };
+      posts = posts_head r.posts;
     }

@@ -1,4 +1,5 @@
 -- Founding a ring, place by place.
+use Rattle.std.specs.Prelude.{Err}
 use Prim.Native.Nat.{ℕ, zero, suc, ◌+◌, ◌*◌, ◌/◌, ◌<◌, ◌≤◌}
 use mathlib.Core.Path.{◌≡◌, refl, sym, ap, ◌∙◌}
 use mathlib.Core.Bool.{Bool, true, false, cond, and-false, false≢true}
@@ -25,14 +26,13 @@ use Rattle.record.proofs.RoundTrip.{record-restored}
 use Rattle.station.specs.Found.{founded}
 use Rattle.station.specs.declared.answer.Outcome.{Outcome}
 use Rattle.station.specs.declared.refusal.Refusal.TheVariants.{NoRoom}
-use Rattle.station.specs.declared.answer.Answer.TheVariants.{Refused}
+use Rattle.station.proofs.OutcomeLaws.{taken-by-number}
 use Rattle.station.proofs.ReplyGood.{founded-either}
 use Rattle.station.specs.Over.{ids_in, found_over, found_in}
 use Rattle.station.specs.Reply.{station_after}
 use Rattle.ring.specs.Run.{ring_foundable}
 use Rattle.ring.specs.OverBytes.{founded_over, bytes_founded, ExactBuffer, Founding}
 use Rattle.ring.specs.Stations.{record_at, with_record, records_after, ring_founded, records_founded, founded_up_to, ring_after, FoundedForDemand}
-use Rattle.ring.proofs.runs.LentRun.{refused-left}
 use Rattle.ring.proofs.places.PlaceLaws.{with-same}
 
 -- the own id is that of the place
@@ -54,7 +54,7 @@ module _ (list : List ℕ) (ring : ℕ) (buffers : ℕ → List ℕ) (rooms : �
   unfolding found_in
   left-size =
       founded-either (λ reply. length (station_after reply (buffers p)) ≡ record_size) no_record
-      (λ why. rw (refused-left why) long) _ (ids_in list) (get_or (ids_in list) p 0) ring
+      (λ why. long) _ (ids_in list) (get_or (ids_in list) p 0) ring
       (λ f.
       let size = (record-restored (fresh (ids_in list) (get_or (ids_in list) p 0) ring) (fresh-whole (ids_in list) (get_or (ids_in list) p 0) ring f)).1 in
       rw (length-append, size, drop_of_length-le (buffers p) {i = record_size} (omega (arith, long))))
@@ -107,7 +107,7 @@ members-some : (s list : List ℕ) (own ring room : ℕ) → is_taken (found_ove
 unfolding found_in
 members-some s list own ring room =
     founded-either (λ reply. is_taken reply.answer ≡ true → 1 ≤ length (ids_in list)) no_record
-    (λ why t. absurd (false≢true (sym (refused-left why) ∙ t))) _ (ids_in list) own ring
+    (λ why t. absurd (false≢true t)) _ (ids_in list) own ring
     (λ f t. omega (arith, foundable-facts (ids_in list) own ring f))
 
 -- ---- founding the ring: no room, a refusal, all founded
@@ -116,7 +116,7 @@ module _ (records list : List ℕ) (ring : ℕ) (token : List ℕ) where
   pub ring-roomless : (n : ℕ) (o : Outcome)
       → n ≡ length (ids_in list)
       → length records / record_size < n
-      → o ≡ outcome_of (Refused NoRoom)
+      → o ≡ outcome_of (Err NoRoom)
       → (o ≡ outcome_of (ring_founded records list ring (length token)).answer)
       × (records ≡ ring_after records list ring (length token))
       × (token ≡ followed_by (ring_founded records list ring (length token)).frames token)
@@ -151,7 +151,7 @@ module _ (records list : List ℕ) (ring : ℕ) (token : List ℕ) where
         × (token₁ ≡ followed_by (ring_founded records list ring (length token)).frames token)
     unfolding ring_after
     ring-refused why =
-        let known : is_taken first.answer ≡ false = ne_eqb (outcome_of first.answer).refusal 0 (λ z. why (ap (λ (x : Outcome). x.refusal) said ∙ z)) in
+        let known : is_taken first.answer ≡ false = taken-by-number first.answer ∙ ne_eqb (outcome_of first.answer).refusal 0 (λ z. why (ap (λ (x : Outcome). x.refusal) said ∙ z)) in
         let same : records₁ ≡ with_record 0 (record_at 0 records) records = rw known at left in
         rw (one, known) (said, same ∙ sym (with-same 0 records), wrote)
 
@@ -163,7 +163,7 @@ module _ (records list : List ℕ) (ring : ℕ) (token : List ℕ) where
         × (token₁ ≡ followed_by (ring_founded records list ring (length token)).frames token)
     unfolding ring_after
     ring-founded records₂ taken others =
-        let known : is_taken first.answer ≡ true = eq-eqb (outcome_of first.answer).refusal 0 (sym (ap (λ (x : Outcome). x.refusal) said) ∙ taken) in
+        let known : is_taken first.answer ≡ true = taken-by-number first.answer ∙ eq-eqb (outcome_of first.answer).refusal 0 (sym (ap (λ (x : Outcome). x.refusal) said) ∙ taken) in
         let some : 1 ≤ length (ids_in list) = members-some (record_at 0 records) list (get_or (ids_in list) 0 0) ring (length token) known in
         let full : record_size * n ≤ length records = omega (arith, enough) in
         let left' : records₁ ≡ records_after 0 (found_over (record_at 0 records) list (get_or (ids_in list) 0 0) ring shortest_token) records = rw (token-room (record_at 0 records) list (get_or (ids_in list) 0 0) ring (length token) known) at left in
@@ -184,7 +184,7 @@ taken-ring : (s list : List ℕ) (own ring room : ℕ) → is_taken (found_over 
 unfolding found_in
 taken-ring s list own ring room =
     founded-either (λ reply. is_taken reply.answer ≡ true → ring_foundable (ids_in list) ring ≡ true) no_record
-    (λ why t. absurd (false≢true (sym (refused-left why) ∙ t))) _ (ids_in list) own ring
+    (λ why t. absurd (false≢true t)) _ (ids_in list) own ring
     (λ f t. foundable-ring (ids_in list) own ring f)
 
 -- the records stand at their places

@@ -1,12 +1,11 @@
 -- A call's broadcasts reach a place, frame by frame.
-use Prim.Native.Nat.{ℕ, ◌+◌, ◌-◌, ◌<◌, ◌≤◌}
+use Prim.Native.Nat.{ℕ, ◌+◌, ◌-◌, ◌≤◌}
 use mathlib.Core.Path.{◌≡◌, refl, sym, ap, ◌∙◌}
 use mathlib.Core.Bool.{Bool, true, false, cond}
 use mathlib.Core.List.{List, [], ◌∷◌, ◌++◌, append_assoc, append-nil}
 use native.Mathlib.Omega.{arith}
-use lib.ListN.{length, take, drop, length-append, length-take, length-drop, take-append-drop, drop_of_length-le}
+use lib.ListN.{length, take, drop, length-append, length-drop, take-append-drop, drop_of_length-le}
 use lib.Seq.{take_all, take_at, length-take-le, drop-drop, drop-append-add}
-use Rattle.frames.specs.Header.{own_size}
 use Rattle.frames.specs.Read.{read_of}
 use Rattle.station.specs.Answer.{outcome_of}
 use Rattle.station.specs.Reply.{Reply}
@@ -15,7 +14,6 @@ use Rattle.visit.specs.Within.{frames_in}
 use Rattle.station.specs.declared.answer.Outcome.{Outcome}
 use Rattle.ring.specs.Stations.{record_at, with_record, records_after, arrived_at, is_message, HeardThere, hears, hears_message, heard_so_far, Reached, hears_all, heard_at}
 use Rattle.ring.proofs.places.PlaceLaws.{with-same, at_with, with-with}
-use Rattle.ring.proofs.places.CutLaws.{cut_at, cut-none}
 use Rattle.ring.proofs.places.ArriveLaws.{counted}
 
 -- ---- a buffer of bytes joined
@@ -35,7 +33,7 @@ joined-again a b d h =
 -- ---- one frame
 
 module _ (p : ℕ) (records frame deliveries : List ℕ) (at : ℕ) (inside : at ≤ length deliveries) where
-  pub not-reached : is_message (read_of frame).answer ≡ false → Reached p records frame deliveries at at records deliveries
+  pub not-reached : is_message (read_of frame) ≡ false → Reached p records frame deliveries at at records deliveries
   not-reached e =
       let n : length (take at deliveries) ≡ at = length-take-le at deliveries inside in
       record {
@@ -54,21 +52,13 @@ module _ (p : ℕ) (records frame deliveries : List ℕ) (at : ℕ) (inside : at
   room : length part ≡ length deliveries - length (take at deliveries)
   room = rw (part-is, length-drop, length-take-le at deliveries inside)
 
-  module _ (e : is_message (read_of frame).answer ≡ true)
+  module _ (e : is_message (read_of frame) ≡ true)
       (o : Outcome) (records' part' : List ℕ)
       (said : o ≡ outcome_of (arrived_at p records frame most_frames (length part)).answer)
       (left_there : records' ≡ records_after p (arrived_at p records frame most_frames (length part)) records)
       (handed-there : part' ≡ followed_by (arrived_at p records frame most_frames (length part)).deliveries part) where
     reply : Reply
     reply = arrived_at p records frame most_frames (length part)
-
-    -- what is handed out has room
-    pub handed-fits : length part' ≡ length part → o.deliveries + at ≤ length deliveries
-    handed-fits same =
-        let c = counted (record_at p records) frame most_frames (length part) in
-        let long = simp length-append at (ap length handed-there) in
-        let n : length part ≡ length deliveries - at = rw (part-is, length-drop) in
-        omega (arith, ap (λ (x : Outcome). x.deliveries) said)
 
     pub reached : Reached p records frame deliveries at (at + o.deliveries) records' (take at deliveries ++ (part' ++ drop (length deliveries - at) (drop at deliveries)))
     reached =
@@ -85,7 +75,7 @@ module _ (p : ℕ) (records frame deliveries : List ℕ) (at : ℕ) (inside : at
 
 -- what was handed out stays
 grows : (room : ℕ) (h : HeardThere) (frame : List ℕ) → length h.handed ≤ length (hears room h frame).handed
-grows room h frame = go (is_message (read_of frame).answer)
+grows room h frame = go (is_message (read_of frame))
   where
     go : (b : Bool) → length h.handed ≤ length (cond b (hears_message room h frame) h).handed
     go true = simp length-append (omega arith)
@@ -93,79 +83,67 @@ grows room h frame = go (is_message (read_of frame).answer)
 
 -- ---- a loop that hands all frames to a place: what is still to be heard, from here on, gives what the whole gives
 
-pub record Hearing (p : ℕ) (records₀ written deliveries₀ records deliveries : List ℕ) (from at : ℕ) : Type 0 where
-  pub begins : from ≤ length written
+pub record Hearing (p : ℕ) (records₀ written deliveries₀ records deliveries : List ℕ) (left : List (List ℕ)) (at : ℕ) : Type 0 where
   pub inside : at ≤ length deliveries
   pub size : length deliveries ≡ length deliveries₀
   pub width : length records ≡ length records₀
-  pub left : records ≡ with_record p (record_at p records) records₀
+  pub there : records ≡ with_record p (record_at p records) records₀
   pub joined : deliveries ≡ followed_by (take at deliveries) deliveries₀
-  pub rest : hears_all (length deliveries₀) (heard_so_far p records deliveries at) (frames_in (drop from written)) ≡ heard_at p records₀ written (length deliveries₀)
+  pub rest : hears_all (length deliveries₀) (heard_so_far p records deliveries at) left ≡ heard_at p records₀ written (length deliveries₀)
 
 module _ (p : ℕ) (records₀ written deliveries₀ : List ℕ) where
-  pub hearing-starts : Hearing p records₀ written deliveries₀ records₀ deliveries₀ 0 0
+  pub hearing-starts : Hearing p records₀ written deliveries₀ records₀ deliveries₀ (frames_in written) 0
   unfolding heard_at
   hearing-starts =
       record {
-        begins = omega arith;
         inside = omega arith;
         size = refl;
         width = refl;
-        left = with-same p records₀;
+        there = with-same p records₀;
         joined = refl;
         rest = refl;
       }
 
-  module _ (records deliveries : List ℕ) (from at : ℕ) (h : Hearing p records₀ written deliveries₀ records deliveries from at) where
-    pub hearing-goes : (k at' : ℕ) (records' deliveries' : List ℕ)
-        → from < length written
-        → k ≡ length (take (own_size (take (length written - from) (drop from written))) (take (length written - from) (drop from written)))
-        → Reached p records (take (from + k - from) (drop from written)) deliveries at at' records' deliveries'
+  module _ (records deliveries : List ℕ) (left : List (List ℕ)) (at : ℕ) (h : Hearing p records₀ written deliveries₀ records deliveries left at) where
+    pub hearing-goes : (frame : List ℕ) (after : List (List ℕ)) (at' : ℕ) (records' deliveries' : List ℕ)
+        → left ≡ frame ∷ after
+        → Reached p records frame deliveries at at' records' deliveries'
         → length records' ≡ length records
         → length deliveries' ≡ length deliveries
-        → Hearing p records₀ written deliveries₀ records' deliveries' (from + k) at'
+        → Hearing p records₀ written deliveries₀ records' deliveries' after at'
     unfolding hears_all
-    hearing-goes k at' records' deliveries' more e r same same' =
-        let all : take (length written - from) (drop from written) ≡ drop from written = take_all (length written - from) (drop from written) (simp length-drop (omega arith)) in
-        let size : k ≡ length (take (own_size (drop from written)) (drop from written)) = rw all at e in
-        let long : length (drop from written) ≡ length written - from = length-drop from written in
-        let few : k ≤ length written - from = omega (arith, size ∙ length-take (own_size (drop from written)) (drop from written), long) in
-        let one : from + k - from ≡ k = omega arith in
-        let r' : Reached p records (take k (drop from written)) deliveries at at' records' deliveries' = rw one at r in
+    hearing-goes frame after at' records' deliveries' cuts r same same' =
         let h₀ = heard_so_far p records deliveries at in
-        let h₁ = hears (length deliveries) h₀ (take k (drop from written)) in
-        let kept : length (with_record p h₁.bytes records) ≡ length records = sym (ap length r'.left) ∙ same in
-        let kept₀ : length (with_record p (record_at p records) records₀) ≡ length records₀ = sym (ap length h.left) ∙ h.width in
-        let bytes : record_at p records' ≡ h₁.bytes = rw r'.left (at_with p records h₁.bytes kept) in
-        let handed : take at' deliveries' ≡ h₁.handed = rw (r'.joined, r'.count) (take_at h₁.handed _ (length h₁.handed) refl) in
-        let fits = simp length-append at (ap length r'.joined) in
-        let here : 0 < length (drop from written) = omega (arith, long) in
-        let cuts : frames_in (drop from written) ≡ take k (drop from written) ∷ frames_in (drop (from + k) written) = rw (← drop-drop k from written) (cut_at (drop from written) k here size) in
+        let h₁ = hears (length deliveries) h₀ frame in
+        let kept : length (with_record p h₁.bytes records) ≡ length records = sym (ap length r.left) ∙ same in
+        let kept₀ : length (with_record p (record_at p records) records₀) ≡ length records₀ = sym (ap length h.there) ∙ h.width in
+        let bytes : record_at p records' ≡ h₁.bytes = rw r.left (at_with p records h₁.bytes kept) in
+        let handed : take at' deliveries' ≡ h₁.handed = rw (r.joined, r.count) (take_at h₁.handed _ (length h₁.handed) refl) in
+        let fits = simp length-append at (ap length r.joined) in
         let state : heard_so_far p records' deliveries' at' ≡ h₁ =
         ap (λ (b : List ℕ). record { bytes = b; handed = take at' deliveries' }) bytes ∙ ap (λ (x : List ℕ). record { bytes = h₁.bytes; handed = x }) handed in
         record {
-          begins = omega arith;
-          inside = omega (arith, r'.count);
+          inside = omega (arith, r.count);
           size = same' ∙ h.size;
           width = same ∙ h.width;
-          left = r'.left
-              ∙ ap (λ (l : List ℕ). with_record p h₁.bytes l) h.left
+          there = r.left
+              ∙ ap (λ (l : List ℕ). with_record p h₁.bytes l) h.there
               ∙ with-with p records₀ (record_at p records) kept₀ h₁.bytes
               ∙ sym (ap (λ (s : List ℕ). with_record p s records₀) bytes);
-          joined = r'.joined
+          joined = r.joined
               ∙ ap (λ (d : List ℕ). followed_by h₁.handed d) h.joined
-              ∙ joined-again (take at deliveries) h₁.handed deliveries₀ (grows (length deliveries) h₀ (take k (drop from written)))
+              ∙ joined-again (take at deliveries) h₁.handed deliveries₀ (grows (length deliveries) h₀ frame)
               ∙ sym (ap (λ (b : List ℕ). followed_by b deliveries₀) handed);
-          rest = ap (λ (x : HeardThere). hears_all (length deliveries₀) x (frames_in (drop (from + k) written))) state
-              ∙ ap (λ (n : ℕ). hears_all (length deliveries₀) (hears n h₀ (take k (drop from written))) (frames_in (drop (from + k) written))) h.size
+          rest = ap (λ (x : HeardThere). hears_all (length deliveries₀) x after) state
+              ∙ ap (λ (n : ℕ). hears_all (length deliveries₀) (hears n h₀ frame) after) h.size
               ∙ rw cuts at h.rest;
         }
 
-    pub hearing-ends : length written ≤ from
+    pub hearing-ends : left ≡ []
         → (at ≡ length (heard_at p records₀ written (length deliveries₀)).handed)
         × (records ≡ with_record p (heard_at p records₀ written (length deliveries₀)).bytes records₀)
         × (deliveries ≡ followed_by (heard_at p records₀ written (length deliveries₀)).handed deliveries₀)
     unfolding hears_all
     hearing-ends done =
-        let over : heard_so_far p records deliveries at ≡ heard_at p records₀ written (length deliveries₀) = rw (drop_of_length-le written {i = from} done, cut-none) at h.rest in
-        rw (← over) (sym (length-take-le at deliveries h.inside), h.left, h.joined)
+        let over : heard_so_far p records deliveries at ≡ heard_at p records₀ written (length deliveries₀) = rw done at h.rest in
+        rw (← over) (sym (length-take-le at deliveries h.inside), h.there, h.joined)

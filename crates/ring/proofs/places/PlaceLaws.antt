@@ -2,31 +2,15 @@
 use Prim.Native.Nat.{ℕ, ◌+◌, ◌*◌, ◌-◌, ◌<◌, ◌≤◌, min}
 use mathlib.Core.Path.{◌≡◌, refl, ap, ◌∙◌}
 use mathlib.Core.List.{List, [], ◌∷◌, ◌++◌, append-nil}
-use native.Mathlib.Nat.{min-eq_left, min-eq_right}
 use native.Mathlib.Decide.{dec_lt}
 use native.Mathlib.Omega.{arith}
 use lib.ListN.{length, take, drop, length-append, length-take, length-drop, take-append-drop, drop_of_length-le}
-use lib.Seq.{take_all, take-nil, take-length, drop-length, length-take-le, take_at, drop_at, drop-drop}
+use lib.Seq.{take_all, take-nil, length-take-le, take_at, drop_at, drop-drop}
+use Rattle.std.proofs.lemmas.List.{take_min, drop_min}
 use Rattle.record.specs.Layout.{record_size}
 use Rattle.station.specs.Reply.{Reply}
 use Rattle.station.specs.Reply.{station_after}
 use Rattle.ring.specs.Stations.{record_at, with_record, records_after}
-
--- ---- a place past the end is the end
-
-pub take-clamped : (n : ℕ) (l : List ℕ) → take (min n (length l)) l ≡ take n l
-take-clamped n l =
-    elim (dec_lt n (length l)) [
-      | yes h ↦ let few : n ≤ length l = omega arith in rw (min-eq_left few)
-      | no h ↦ let many : length l ≤ n = omega arith in rw (min-eq_right many, take-length, take_all n l many)
-    ]
-
-pub drop-clamped : (n : ℕ) (l : List ℕ) → drop (min n (length l)) l ≡ drop n l
-drop-clamped n l =
-    elim (dec_lt n (length l)) [
-      | yes h ↦ let few : n ≤ length l = omega arith in rw (min-eq_left few)
-      | no h ↦ let many : length l ≤ n = omega arith in rw (min-eq_right many, drop-length, drop_of_length-le l many)
-    ]
 
 -- ---- the part from `from` to `to`, where a place begins and ends
 
@@ -34,16 +18,16 @@ module _ (at size : ℕ) (l : List ℕ) (from to : ℕ) (f : from ≡ min at (le
   part-is : take (to - from) (drop from l) ≡ take size (drop at l)
   part-is =
       let n : to - from ≡ min size (length (drop at l)) = rw length-drop (omega arith) in
-      let d : drop from l ≡ drop at l = rw f (drop-clamped at l) in
-      rw (d, n) (take-clamped size (drop at l))
+      let d : drop from l ≡ drop at l = rw f (drop_min at l) in
+      rw (d, n) (take_min size (drop at l))
 
   before-is : take from l ≡ take at l
-  before-is = rw f (take-clamped at l)
+  before-is = rw f (take_min at l)
 
   after_is : drop (to - from) (drop from l) ≡ drop (at + size) l
   after_is =
       let e : from + (to - from) ≡ min (at + size) (length l) = omega arith in
-      rw (drop-drop (to - from) from l, e) (drop-clamped (at + size) l)
+      rw (drop-drop (to - from) from l, e) (drop_min (at + size) l)
 
 -- ---- a call at a place, from the call over bytes on the part
 

@@ -1,6 +1,6 @@
 -- A token that passes every question is accepted, and what an accepting call writes last passes 10 to 14.
 use Prim.Native.Nat.{ℕ, ◌≤◌}
-use mathlib.Core.Path.{◌≡◌, refl, sym, ◌∙◌, ap, subst}
+use mathlib.Core.Path.{◌≡◌, sym, ◌∙◌, ap, subst}
 use mathlib.Core.Bool.{true, false, and-false, false≢true}
 use mathlib.Core.List.{List, []}
 use mathlib.Core.Option.{Option, some}
@@ -11,9 +11,11 @@ use Rattle.frames.specs.Number.{most_number}
 use Rattle.frames.specs.Token.{token_follows}
 use Rattle.frames.specs.Read.{read_of, a_token}
 use Rattle.frames.specs.declared.token.Token.{Token}
-use Rattle.frames.specs.declared.reader.Reading.{Reading}
+use Rattle.std.specs.Prelude.{Result}
+use Rattle.frames.specs.declared.refusal.Refusal.{Refusal}
+use Rattle.frames.specs.declared.reader.Frame.{Frame}
 use Rattle.frames.proofs.Facts.{part}
-use Rattle.record.specs.Ring.{current, ids, this_ring, token_members, is_token, token_passes}
+use Rattle.record.specs.Ring.{current, ids, this_ring, token_members, reading_passes, token_passes}
 use Rattle.record.specs.declared.log.Log.{Log}
 use Rattle.record.specs.declared.Record.{Record}
 use Rattle.record.proofs.HeldFacts.{held-within-most}
@@ -43,31 +45,29 @@ use Rattle.ring.proofs.seen.VisitLaw.{accepts as accepts-visit}
 -- ---- a frame that passes 10 to 14 reads as a token, whose values follow the layout
 
 pub record Passed (ring : ℕ) (members frame : List ℕ) : Type 0 where
-  pub read : read_of frame ≡ a_token (read_of frame).token
-  pub follows : token_follows (read_of frame).token ≡ true
-  pub of_this_ring : this_ring ring members (read_of frame).token.header ≡ true
-  pub members-are : token_members members (read_of frame).token ≡ true
+  pub token : Token
+  pub read : read_of frame ≡ a_token token
+  pub follows : token_follows token ≡ true
+  pub of_this_ring : this_ring ring members token.header ≡ true
+  pub members-are : token_members members token ≡ true
 
 pub passed : (ring : ℕ) (members frame : List ℕ) → token_passes ring members frame ≡ true → Passed ring members frame
 unfolding token_passes
 passed ring members frame e = go (read-case frame)
   where
-    a-token : is_token (read_of frame).answer ≡ true
-    a-token = part e (λ (f : is_token (read_of frame).answer ≡ false). rw f)
-
-    no-token : (x : Reading) → read_of frame ≡ x → is_token x.answer ≡ false → ⊥
-    no-token x f g = false≢true (sym g ∙ ap (λ (y : Reading). is_token y.answer) (sym f) ∙ a-token)
+    as-read : (x : Result Frame Refusal) → read_of frame ≡ x → reading_passes ring members x ≡ true
+    as-read x f = rw f at e
 
     go : ReadCase frame (read_of frame) → Passed ring members frame
-    go (unread why f) = absurd (no-token _ f refl)
-    go (message m f follows) = absurd (no-token _ f refl)
+    go (unread why f) = absurd (false≢true (as-read _ f))
+    go (message m f follows) = absurd (false≢true (as-read _ f))
     go (token t f follows) =
-        let same : t ≡ (read_of frame).token = ap (λ (x : Reading). x.token) (sym f) in
         record {
-          read = f ∙ ap a_token same;
-          follows = subst (λ (k : Token). token_follows k ≡ true) same follows;
-          of_this_ring = part e (λ (g : this_ring ring members (read_of frame).token.header ≡ false). simp (g, and-false));
-          members-are = part e (λ (g : token_members members (read_of frame).token ≡ false). simp (g, and-false));
+          token = t;
+          read = f;
+          follows = follows;
+          of_this_ring = part (as-read _ f) (λ (g : this_ring ring members t.header ≡ false). rw g);
+          members-are = part (as-read _ f) (λ (g : token_members members t ≡ false). simp (g, and-false));
         }
 
 -- ---- 18: its highest is at least the level and every number held

@@ -3,7 +3,6 @@ use Prim.Native.Nat.{ℕ}
 use mathlib.Core.Path.{◌≡◌, refl, ◌∙◌, ap, fun_ext}
 use mathlib.Core.Bool.{Bool, true, false, cond}
 use mathlib.Core.List.{List, [], ◌∷◌, append-nil}
-use borrow.Author.Tests.{ne_eqb}
 use native.Mathlib.Omega.{arith}
 use lib.ListN.{length, drop, drop_of_length-le}
 use lib.Dec.{eqb}
@@ -15,25 +14,15 @@ use Rattle.record.specs.Lent.{lent}
 use Rattle.record.specs.declared.Record.{Record}
 use Rattle.record.proofs.LentLaws.{lent_of}
 use Rattle.record.proofs.RoundTrip.{bytes-restored, record-restored}
-use Rattle.station.specs.Refusal.{refusal_number}
-use Rattle.station.specs.Answer.{is_taken}
 use Rattle.station.specs.Resend.{resent}
-use Rattle.station.specs.declared.refusal.Refusal.{Refusal}
-use Rattle.station.specs.declared.answer.Answer.TheVariants.{Refused}
-use Rattle.station.proofs.RefusalLaws.{some_number}
 use Rattle.station.proofs.ReplyGood.{resent-either}
 use Rattle.station.specs.Over.{post_over, arrive_over, resend_over}
 use Rattle.station.specs.Reply.{station_after}
-use Rattle.station.proofs.LentLaws.{whole_long, whole-lent}
+use Rattle.station.proofs.LentLaws.{whole_long, whole_lent}
 use Rattle.station.proofs.ThereLaws.{posted-there, arrived-there}
 use Rattle.ring.specs.Calls.{Call, post, arrival, resending, station_of, reply_to}
 use Rattle.ring.specs.Run.{Ring, update, start, step, run, account_of, structs}
 use Rattle.ring.specs.OverBytes.{lent_bytes, CallsOver}
-
--- ---- a refusal is not taken
-
-pub refused-left : (why : Refusal) → is_taken (Refused why) ≡ false
-refused-left why = ne_eqb (refusal_number why) 0 (some_number why)
 
 -- ---- a resending leaves the record, and the bytes
 
@@ -44,14 +33,14 @@ module _ (s : List ℕ) (room : ℕ) where
 
   resent-there : lent (station_after (resent (lent s) room) s) ≡ (resent (lent s) room).rec
   resent-there =
-      resent-either (λ reply. lent (station_after reply s) ≡ reply.rec) (lent s) (λ why. rw (refused-left why)) room (λ w.
+      resent-either (λ reply. lent (station_after reply s) ≡ reply.rec) (lent s) (λ why. refl) room (λ w.
       let restored = record-restored (lent s) w in
       rw (nothing-after w, append-nil) (lent_of (record_bytes (lent s)) restored.1 ∙ restored.0))
 
   resent-unwritten : Bytes s → station_after (resent (lent s) room) s ≡ s
   resent-unwritten bytes =
-      resent-either (λ reply. station_after reply s ≡ s) (lent s) (λ why. rw (refused-left why)) room (λ w.
-      rw (nothing-after w, append-nil, whole-lent s w) (bytes-restored s bytes (whole_long s w)))
+      resent-either (λ reply. station_after reply s ≡ s) (lent s) (λ why. refl) room (λ w.
+      rw (nothing-after w, append-nil, whole_lent s w) (bytes-restored s bytes (whole_long s w)))
 
 -- ---- a call over bytes is the one over C
 

@@ -7,7 +7,9 @@ use mathlib.Core.Option.{some}
 use native.Mathlib.Omega.{arith}
 use lib.ListN.{length}
 use Rattle.frames.specs.Number.{most_number}
-use Rattle.frames.specs.Read.{read_of}
+use Rattle.std.specs.Prelude.{Result}
+use Rattle.frames.specs.declared.refusal.Refusal.{Refusal}
+use Rattle.frames.specs.declared.reader.Frame.{Frame}
 use Rattle.frames.specs.declared.token.Token.{Token}
 use Rattle.record.specs.Members.{members_counted, ids_follow, ring_in_range}
 use Rattle.record.specs.Ring.{current, ids}
@@ -24,7 +26,7 @@ use Rattle.ring.specs.Run.{Ring, records, first_frame, ring_of, start, run, acco
 use Rattle.ring.specs.Demand.{CanAfter}
 use Rattle.ring.specs.Newest.{newest, newest_after, NewestAccepted, NeverRefused}
 use Rattle.ring.proofs.runs.Going.{Possible}
-use Rattle.ring.proofs.seen.View.{token_in, store_of, station_seen, event_seen}
+use Rattle.ring.proofs.seen.View.{seen_token, token_by, token_in, store_of, station_seen, event_seen}
 use Rattle.ring.proofs.seen.CallLaw.{sight}
 use Rattle.ring.proofs.runs.Start.{ring-facts, ids-distinct, some-member, starts}
 use Rattle.ring.proofs.runs.Matches.{Matches, Followed}
@@ -59,9 +61,6 @@ module _ (members : List ℕ) (ring : ℕ)
     abbrev frame : List ℕ
     frame = newest_after members ring (account_of structs founded) calls
 
-    abbrev token : Token
-    token = (read_of frame).token
-
     -- ---- as ordering sees it
 
     seen-run : Followed sight (length members) (ring_of members ring) first first_seen (starts members ring counted follow ranged) (start founded) (ordered.start members) calls
@@ -73,8 +72,8 @@ module _ (members : List ℕ) (ring : ℕ)
     due : Newest members first_seen now_seen
     due = newest-is members first (ids-distinct members follow) (omega (arith, some-member members ring counted follow ranged)) seen-run.calls seen-run.possible
 
-    token-is : cable.newest first_seen now_seen.history ≡ token_in frame
-    token-is =
+    frame-is : cable.newest first_seen now_seen.history ≡ token_in frame
+    frame-is =
         ap (cable.newest first_seen) (sym seen-run.matches.history)
         ∙ ap (λ (t : seen.Token). cable.newest t (map (event_seen (ring_of members ring)) now.history)) (sym (first-seen members ring counted follow ranged))
         ∙ newest-seen (ring_of members ring) first now.history
@@ -86,6 +85,12 @@ module _ (members : List ℕ) (ring : ℕ)
         passed ring members frame
         (newest-passes sight members ring counted follow ranged (start founded) (ordered.start members) calls matched (λ p h. refl) can
         (first_passes members ring counted follow ranged))
+
+    abbrev token : Token
+    token = token-passed.token
+
+    token-is : cable.newest first_seen now_seen.history ≡ seen_token token frame
+    token-is = frame-is ∙ ap (λ (x : Result Frame Refusal). token_by frame x) token-passed.read
 
     -- ---- its addressee
 
@@ -152,6 +157,8 @@ module _ (members : List ℕ) (ring : ℕ)
         record {
           place = due.place;
           here = due.place_in;
+          token = token;
+          reads = token-passed.read;
           addressed = ap (λ (t : seen.Token). t.addressee) (sym token-is) ∙ due.addressee-is;
           accepts = λ frames deliveries enough room low. event-accepted there frame token token-passed.read (acceptable low) due.place frames deliveries enough room;
         }

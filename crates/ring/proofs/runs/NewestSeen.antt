@@ -9,7 +9,9 @@ use native.Mathlib.Omega.{arith}
 use lib.ListN.{length}
 use lib.Dec.{eqb}
 use Rattle.frames.specs.declared.header.Header.{Header}
-use Rattle.frames.specs.declared.reader.Reading.{Reading}
+use Rattle.std.specs.Prelude.{Result}
+use Rattle.frames.specs.declared.refusal.Refusal.{Refusal}
+use Rattle.frames.specs.declared.reader.Frame.{Frame}
 use Rattle.record.specs.Ring.{current, ids, this_ring, token_members, token_passes}
 use Rattle.record.specs.Members.{representative, members_counted, ids_follow, ring_in_range}
 use Rattle.station.specs.Found.{first_token}
@@ -25,7 +27,7 @@ use Rattle.ring.specs.History.{Event, written_by, is_accepted}
 use Rattle.ring.specs.Newest.{last_of, newest}
 use Rattle.ring.specs.Run.{Ring, first_frame, ring_of, step, run, structs}
 use Rattle.ring.proofs.runs.Going.{Possible}
-use Rattle.ring.proofs.seen.View.{seen_token, token_in, station_seen, event_seen}
+use Rattle.ring.proofs.seen.View.{token_by, token_in, station_seen, event_seen}
 use Rattle.ring.proofs.seen.Law.{Law}
 use Rattle.ring.proofs.runs.Start.{own-among, some-member, first_reads, starts}
 use Rattle.ring.proofs.runs.Matches.{event_of, Matches, step-law}
@@ -47,7 +49,7 @@ module _ (members : List ℕ) (ring : ℕ) (counted : members_counted members �
   -- founding's token
   pub first-seen : token_in (first_frame members ring) ≡ ordered.founding_token members (first_frame members ring)
   unfolding first_token
-  first-seen = ap (λ (x : Reading). seen_token x.token (first_frame members ring)) (first_reads members ring counted follow ranged)
+  first-seen = ap (λ (x : Result Frame Refusal). token_by (first_frame members ring) x) (first_reads members ring counted follow ranged)
 
   pub first_passes : token_passes ring members (first_frame members ring) ≡ true
   unfolding token_passes this_ring token_members first_token

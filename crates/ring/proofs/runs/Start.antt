@@ -1,4 +1,5 @@
 -- The start: founding's records, and the ring's first token.
+use Rattle.std.specs.Prelude.{Ok}
 use Prim.Native.Nat.{ℕ, zero, suc, ◌<◌, ◌≤◌}
 use mathlib.Core.Path.{◌≡◌, refl, sym, ◌∙◌, ap, fun_ext}
 use mathlib.Core.Bool.{Bool, true, false, not, ◌&&◌, and-false, false≢true}
@@ -85,7 +86,7 @@ ids-distinct members e = distinct-at members (part e (λ (f : distinct members �
 module _ (members : List ℕ) (ring : ℕ) (counted : members_counted members ≡ true) (follow : ids_follow members ≡ true) (ranged : ring_in_range ring ≡ true) where
   -- what founding at a place leaves and writes
   pub founded-at : (p : ℕ) → p < length members
-      → founded_at members ring p ≡ record { answer = Founded; rec = fresh members (get_or members p 0) ring; frames = token_bytes (first_token members ring); deliveries = [] }
+      → founded_at members ring p ≡ record { answer = Ok Founded; rec = fresh members (get_or members p 0) ring; frames = token_bytes (first_token members ring); deliveries = [] }
   unfolding founded
   founded-at p h = rw (counted, follow, own-among members p h, ranged)
 

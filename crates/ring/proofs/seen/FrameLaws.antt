@@ -12,9 +12,9 @@ use Rattle.frames.specs.Read.{a_message, a_token, read_of}
 use Rattle.frames.specs.declared.header.Header.{Header}
 use Rattle.frames.specs.declared.message.Message.{Message}
 use Rattle.frames.specs.declared.token.Token.{Token}
-use Rattle.frames.specs.declared.reader.Answer.{Answer}
-use Rattle.frames.specs.declared.reader.Answer.TheVariants.{Refused, IsMessage, IsToken}
-use Rattle.frames.specs.declared.reader.Reading.{Reading}
+use Rattle.frames.specs.declared.refusal.Refusal.{Refusal}
+use Rattle.frames.specs.declared.reader.Frame.{Frame}
+use Rattle.std.specs.Prelude.{Result}
 use Rattle.frames.proofs.Facts.{message-facts}
 use Rattle.frames.proofs.Rewritten.{message-read, token-read}
 pub use Rattle.frames.proofs.Rewritten.{message-not-token, unread-not-message, unread-not-token}
@@ -25,32 +25,21 @@ use Rattle.visit.specs.Reads.{Each, HeldReads}
 use Rattle.visit.proofs.FrameLaws.{reads-exact}
 use Rattle.visit.proofs.WithinLaws.{frames-within}
 use Rattle.ordering.specs.inner.Frame as seen
-use Rattle.record.specs.Ring.{is_token}
 use Rattle.ring.specs.History.{same_ring}
-use Rattle.ring.proofs.seen.View.{seen_token, token_in, message_in, frame_by, frame_seen}
+use Rattle.ring.proofs.seen.View.{seen_token, token_by, token_in, message_in, frame_by, frame_seen}
 use Rattle.ring.proofs.seen.Law.{Rewrites}
 use Rattle.ring.proofs.seen.StoreLaws.{message_held}
 
 -- ---- what reads is the one frame within its own bytes
 
-token-is : (s : List ℕ) → is_token (read_of s).answer ≡ true → read_of s ≡ a_token (read_of s).token
-token-is s e = go (read_of s).answer (read_of s).token e
-  where
-    go : (a : Answer) (t : Token) → is_token a ≡ true → ◌≡◌ {A = Reading} (record { answer = a; token = t }) (a_token t)
-    go (Refused why) t f = let z : ◌≡◌ {A = ℕ} 0 1 = cc in absurd (omega arith)
-    go (IsMessage m) t f = let z : ◌≡◌ {A = ℕ} 0 1 = cc in absurd (omega arith)
-    go IsToken t f = refl
-
-pub token-alone : (s : List ℕ) → is_token (read_of s).answer ≡ true → frames_in s ≡ s ∷ []
+pub token-alone : (s : List ℕ) (t : Token) → read_of s ≡ a_token t → frames_in s ≡ s ∷ []
 unfolding flatten
-token-alone s e = rw append-nil at (frames-within (s ∷ []) ((token-read s (read_of s).token (token-is s e)).exact, tt))
+token-alone s t e = rw append-nil at (frames-within (s ∷ []) ((token-read s t e).exact, tt))
 
 -- ---- a message's values follow the layout
 
 same-message : (m k : Message) → a_message m ≡ a_message k → m ≡ k
-same-message m k e =
-    let answer : IsMessage m ≡ IsMessage k = ap (λ (r : Reading). r.answer) e in
-    cc
+same-message m k e = cc
 
 pub message-follows : (s : List ℕ) (m : Message) → read_of s ≡ a_message m → message_follows m (content_of s) ≡ true
 message-follows s m e = let r = message-read s m e in rw (← r.values) r.follows
@@ -63,38 +52,31 @@ message-in s m e = rw e
 
 pub frame-message : (ring : Header) (s : List ℕ) (m : Message) → read_of s ≡ a_message m → same_ring ring m.header ≡ true → frame_seen ring s ≡ seen.message (message_in s)
 unfolding frame_seen
-frame-message ring s m e same = go (read_of s).answer (ap (λ (r : Reading). r.answer) e)
+frame-message ring s m e same = go (read_of s) e
   where
-    go : (a : Answer) → a ≡ IsMessage m → frame_by ring s a ≡ seen.message (message_in s)
+    go : (a : Result Frame Refusal) → a ≡ a_message m → frame_by ring s a ≡ seen.message (message_in s)
     go a f = rw (f, same)
 
 -- its own ring is the same
 pub same-itself : (h : Header) → same_ring h h ≡ true
 same-itself h = rw (eq-eqb h.ring.0 h.ring.0 refl, eq-eqb h.representative h.representative refl)
 
-pub frame-token : (ring : Header) (s : List ℕ) → is_token (read_of s).answer ≡ true → frame_seen ring s ≡ seen.token (token_in s)
+pub frame-token : (ring : Header) (s : List ℕ) (t : Token) → read_of s ≡ a_token t → frame_seen ring s ≡ seen.token (token_in s)
 unfolding frame_seen
-frame-token ring s e = go (read_of s).answer e
+frame-token ring s t e = go (read_of s) e
   where
-    go : (a : Answer) → is_token a ≡ true → frame_by ring s a ≡ seen.token (token_in s)
-    go (Refused why) f = refl
-    go (IsMessage m) f = let z : ◌≡◌ {A = ℕ} 0 1 = cc in absurd (omega arith)
-    go IsToken f = refl
+    go : (a : Result Frame Refusal) → a ≡ a_token t → frame_by ring s a ≡ seen.token (token_in s)
+    go a f = rw f
 
 -- a frame that reads as a token is seen as that token
 pub token-seen : (ring : Header) (f : List ℕ) (t : Token) → read_of f ≡ a_token t → frame_seen ring f ≡ seen.token (seen_token t f)
 unfolding frame_seen
-token-seen ring f t e =
-    ap (λ (x : Reading). frame_by ring f x.answer) e
-    ∙ ap (λ (x : Reading). seen.token (seen_token x.token f)) e
+token-seen ring f t e = frame-token ring f t e ∙ ap (λ (x : Result Frame Refusal). seen.token (token_by f x)) e
 
 -- ---- a token need not be rewritten
 
-pub token-rewrites : (s : List ℕ) → is_token (read_of s).answer ≡ true → Rewrites s
-token-rewrites s e m f =
-    let z : is_token (IsMessage m) ≡ true = ap (λ (r : Reading). is_token r.answer) (sym f) ∙ e in
-    let w : ◌≡◌ {A = ℕ} 0 1 = cc in
-    absurd (omega arith)
+pub token-rewrites : (s : List ℕ) (t : Token) → read_of s ≡ a_token t → Rewrites s
+token-rewrites s t e m f = absurd (message-not-token m t (sym f ∙ e))
 
 -- ---- a message that is held
 

@@ -1,4 +1,5 @@
 -- An arrival: a message that is heard, a refusal, or a token that is accepted.
+use Rattle.std.specs.Prelude.{Ok}
 use Prim.Native.Nat.{ℕ, ◌+◌, ◌-◌}
 use mathlib.Core.Path.{◌≡◌, refl, sym, ap, ◌∙◌}
 use mathlib.Core.Bool.{cond}
@@ -70,7 +71,7 @@ module _ (r : Record) (place : ℕ) (frame a b : List ℕ) (m : Message) (read :
   abbrev out : List ℕ
   out = handed_out l l.safe.0
 
-  after : After r x l (said_kept (heard_answer (heard_as (current r) m.number.0 WasHad IsAhead IsKept) (length out)))
+  after : After r x l (said_kept (Ok (heard_answer (heard_as (current r) m.number.0 WasHad IsAhead IsKept) (length out))))
   after = heard-log r frame m read h rewrites (length out)
 
   onward : Onward (current r) l

@@ -1,4 +1,5 @@
 -- The log after a message, as ordering sees it.
+use Rattle.std.specs.Prelude.{Result, Ok}
 use Prim.Native.Nat.{ℕ, zero, suc, ◌+◌}
 use mathlib.Core.Path.{◌≡◌, refl, sym, ap, ◌∙◌}
 use mathlib.Core.Logic.{◌≢◌}
@@ -22,6 +23,7 @@ use Rattle.visit.specs.Level.{reached, level_of, raised}
 use Rattle.visit.specs.Deliver.{ring_header, frame_with}
 use Rattle.visit.specs.Message.{is_had, is_ahead, heard_as, entry_in, log_with_message}
 use Rattle.station.specs.declared.answer.Answer.{Answer as Said}
+use Rattle.station.specs.declared.refusal.Refusal.{Refusal}
 use Rattle.visit.specs.declared.hearing.Hearing.TheVariants.{WasHad, IsAhead, IsKept}
 use Rattle.station.specs.Arrive.{heard_answer}
 use Rattle.visit.proofs.RingFacts.{header-here}
@@ -162,15 +164,15 @@ module _ (r : Record) (frame : List ℕ) (m : Message) (read : read_of frame ≡
 
   -- ---- whichever it is
 
-  abbrev said : ℕ → Said
-  said k = heard_answer (heard_as l n WasHad IsAhead IsKept) k
+  abbrev said : ℕ → Result Said Refusal
+  said k = Ok (heard_answer (heard_as l n WasHad IsAhead IsKept) k)
 
   pub heard-log : (k : ℕ) → After r x (log_with_message l m (content_of frame)) (said_kept (said k))
   unfolding log_with_message
   heard-log k = go (is_had l n) (is_ahead l n) refl refl
     where
       go : (had ahead : Bool) → is_had l n ≡ had → is_ahead l n ≡ ahead
-          → After r x (cond had l (cond ahead l (raised (stored l n e)))) (said_kept (heard_answer (cond had WasHad (cond ahead IsAhead IsKept)) k))
+          → After r x (cond had l (cond ahead l (raised (stored l n e)))) (said_kept (Ok (heard_answer (cond had WasHad (cond ahead IsAhead IsKept)) k)))
       go true ahead f g = after-skipped (keeps_here ∙ had-not-kept l n f)
       go false true f g = after-skipped (keeps_here ∙ ahead-not-kept l n g)
       go false false f g = after_kept (kept_free l n f g)

@@ -13,8 +13,10 @@ use Rattle.frames.specs.Header.{own_size}
 use Rattle.frames.specs.Read.{read_of}
 use Rattle.frames.proofs.Facts.{part}
 use Rattle.frames.specs.declared.header.Header.{Header}
-use Rattle.frames.specs.declared.reader.Answer.{Answer}
-use Rattle.frames.specs.declared.reader.Answer.TheVariants.{Refused, IsMessage, IsToken}
+use Rattle.frames.specs.declared.refusal.Refusal.{Refusal}
+use Rattle.frames.specs.declared.reader.Frame.{Frame}
+use Rattle.frames.specs.declared.reader.Frame.TheVariants.{Message as IsMessage, Token as IsToken}
+use Rattle.std.specs.Prelude.{Result, Ok, Err}
 use Rattle.visit.specs.Deliver.{joined}
 use Rattle.visit.specs.Within.{frames_up_to, frames_in}
 pub use Rattle.visit.proofs.FrameLaws.{joined-join}
@@ -50,29 +52,29 @@ module _ (ring : Header) where
   by-ring n number x t true e = rw e
   by-ring n number x t false e = refl
 
-  numbered-by : (n : ℕ) (f : List ℕ) (a : Answer) → (read_of f).answer ≡ a → ordered.is_numbered n (frame_by ring f a) ≡ is_message_of ring n a
+  numbered-by : (n : ℕ) (f : List ℕ) (a : Result Frame Refusal) → (read_of f) ≡ a → ordered.is_numbered n (frame_by ring f a) ≡ is_message_of ring n a
   unfolding message_in
-  numbered-by n f (Refused why) e = refl
-  numbered-by n f (IsMessage m) e = by-ring n m.number.0 (message_in f) (token_in f) (same_ring ring m.header) (ap message_number e)
-  numbered-by n f IsToken e = refl
+  numbered-by n f (Err why) e = refl
+  numbered-by n f (Ok (IsMessage m)) e = by-ring n m.number.0 (message_in f) (token_in f) (same_ring ring m.header) (ap message_number e)
+  numbered-by n f (Ok (IsToken t)) e = refl
 
   pub numbered-seen : (n : ℕ) (f : List ℕ) → ordered.is_numbered n (frame_seen ring f) ≡ is_numbered ring n f
   unfolding frame_seen is_numbered
-  numbered-seen n f = numbered-by n f (read_of f).answer refl
+  numbered-seen n f = numbered-by n f (read_of f) refl
 
   -- a frame with a number is seen as the message in it
-  message-by : (n : ℕ) (f : List ℕ) (a : Answer) → (read_of f).answer ≡ a → is_message_of ring n a ≡ true → (frame_by ring f a ≡ seen.message (message_in f)) × ((message_in f).number ≡ n)
+  message-by : (n : ℕ) (f : List ℕ) (a : Result Frame Refusal) → (read_of f) ≡ a → is_message_of ring n a ≡ true → (frame_by ring f a ≡ seen.message (message_in f)) × ((message_in f).number ≡ n)
   unfolding message_in
-  message-by n f (Refused why) e t = absurd (false≢true t)
-  message-by n f (IsMessage m) e t =
+  message-by n f (Err why) e t = absurd (false≢true t)
+  message-by n f (Ok (IsMessage m)) e t =
       let same = part t (λ (h : same_ring ring m.header ≡ false). rw h) in
       let number = part t (λ (h : eqb m.number.0 n ≡ false). simp (h, and-false)) in
       (rw same, ap message_number e ∙ eqb-true m.number.0 n number)
-  message-by n f IsToken e t = absurd (false≢true t)
+  message-by n f (Ok (IsToken k)) e t = absurd (false≢true t)
 
   pub message-seen : (n : ℕ) (f : List ℕ) → is_numbered ring n f ≡ true → (frame_seen ring f ≡ seen.message (message_in f)) × ((message_in f).number ≡ n)
   unfolding frame_seen is_numbered
-  message-seen n f t = message-by n f (read_of f).answer refl t
+  message-seen n f t = message-by n f (read_of f) refl t
 
   -- ---- what is written
 

@@ -1,4 +1,5 @@
 -- A refusal and a post change nothing that ordering sees.
+use Rattle.std.specs.Prelude.{Ok}
 use Prim.Native.Nat.{ℕ}
 use mathlib.Core.Path.{◌≡◌, refl, ◌∙◌}
 use mathlib.Core.Bool.{false}
@@ -58,9 +59,9 @@ sight-refused r c why e = quiet-sight r c (refused r why) e (quiet-refused r c w
 
 -- ---- every post
 
-quiet-taken : (r : Record) (place service : ℕ) (content : List ℕ) → Quiet r (post place service content) (record { answer = Posted; rec = with_post r service content; frames = []; deliveries = [] })
+quiet-taken : (r : Record) (place service : ℕ) (content : List ℕ) → Quiet r (post place service content) (record { answer = Ok Posted; rec = with_post r service content; frames = []; deliveries = [] })
 unfolding station_seen
-quiet-taken r place service content = quiet-reply r (post place service content) (record { answer = Posted; rec = with_post r service content; frames = []; deliveries = [] }) refl refl refl refl refl
+quiet-taken r place service content = quiet-reply r (post place service content) (record { answer = Ok Posted; rec = with_post r service content; frames = []; deliveries = [] }) refl refl refl refl refl
 
 quiet-post : (r : Record) (place service : ℕ) (content : List ℕ) → Quiet r (post place service content) (posted r service content)
 quiet-post r place service content =

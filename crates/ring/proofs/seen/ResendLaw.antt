@@ -1,16 +1,21 @@
 -- A resending that is taken writes the remembered token and changes nothing else.
+use Rattle.std.specs.Prelude.{Ok}
 use Prim.Native.Nat.{ℕ}
 use mathlib.Core.Path.{◌≡◌, refl}
-use mathlib.Core.Bool.{true, false, not, ◌||◌}
+use mathlib.Core.Bool.{true, false≢true, not, ◌||◌}
 use mathlib.Core.List.{List, [], ◌∷◌, map}
 use mathlib.Core.Logic.{◌⊎◌, inl, inr}
 use mathlib.Core.Option.{some}
 use lib.ListN.{length}
 use lib.Dec.{leb}
-use Rattle.frames.specs.Read.{read_of}
-use Rattle.frames.proofs.Facts.{part}
+use Rattle.frames.specs.Read.{read_of, a_token}
+use Rattle.frames.specs.declared.token.Token.{Token}
+use Rattle.frames.specs.declared.refusal.Refusal.{Refusal}
+use Rattle.frames.specs.declared.reader.Frame.{Frame}
+use Rattle.frames.specs.declared.reader.Frame.TheVariants.{Message as IsMessage, Token as IsToken}
+use Rattle.std.specs.Prelude.{Result, Ok, Err}
 use Rattle.record.specs.Turn.{may_resend, remembered}
-use Rattle.record.specs.Ring.{current, ids, token_passes, is_token}
+use Rattle.record.specs.Ring.{current, ids, reading_passes, token_passes}
 use Rattle.record.specs.Whole.{resend_passes, whole}
 use Rattle.record.specs.declared.turn.Turn.{Turn}
 use Rattle.record.specs.declared.Record.{Record}
@@ -33,11 +38,16 @@ use Rattle.ring.proofs.seen.FrameLaws.{token-alone, frame-token, token-rewrites}
 
 -- ---- the remembered token of a whole record reads as a token
 
-passes-token : (ring : ℕ) (members frame : List ℕ) → token_passes ring members frame ≡ true → is_token (read_of frame).answer ≡ true
+passes-token : (ring : ℕ) (members frame : List ℕ) → token_passes ring members frame ≡ true → (t : Token) × (read_of frame ≡ a_token t)
 unfolding token_passes
-passes-token ring members frame e = part e (λ (f : is_token (read_of frame).answer ≡ false). rw f)
+passes-token ring members frame e = go (read_of frame) e
+  where
+    go : (r : Result Frame Refusal) → reading_passes ring members r ≡ true → (t : Token) × (r ≡ a_token t)
+    go (Err why) f = absurd (false≢true f)
+    go (Ok (IsMessage m)) f = absurd (false≢true f)
+    go (Ok (IsToken t)) f = (t, refl)
 
-pub resendable-reads : (r : Record) → whole r ≡ true → may_resend r.turn ≡ true → is_token (read_of (remembered r.turn)).answer ≡ true
+pub resendable-reads : (r : Record) → whole r ≡ true → may_resend r.turn ≡ true → (t : Token) × (read_of (remembered r.turn) ≡ a_token t)
 unfolding resend_passes
 resendable-reads r w resendable =
     let good : (not (may_resend r.turn) || token_passes (current r).ring.0 (ids (current r)) (remembered r.turn)) ≡ true = (whole-good r w).turn.leave in
@@ -50,18 +60,18 @@ resendable-is t e = rw e
 -- ---- taken
 
 abbrev Taken : Record → Reply
-Taken r = record { answer = Resent r.turn.size; rec = r; frames = remembered r.turn; deliveries = [] }
+Taken r = record { answer = Ok (Resent r.turn.size); rec = r; frames = remembered r.turn; deliveries = [] }
 
 module _ (r : Record) (place : ℕ) (frames : List ℕ) (w : whole r ≡ true) (resendable : may_resend r.turn ≡ true) where
-  reads : is_token (read_of (remembered r.turn)).answer ≡ true
+  reads : (t : Token) × (read_of (remembered r.turn) ≡ a_token t)
   reads = resendable-reads r w resendable
 
   within : frames_in (remembered r.turn) ≡ remembered r.turn ∷ []
-  within = token-alone (remembered r.turn) reads
+  within = token-alone (remembered r.turn) reads.0 reads.1
 
   writes : map (frame_seen (ring_header (current r))) (frames_in (remembered r.turn)) ≡ ordered.resend_writes (station_seen r).resendable
   unfolding station_seen
-  writes = rw (within, resendable-is r.turn resendable, frame-token (ring_header (current r)) (remembered r.turn) reads)
+  writes = rw (within, resendable-is r.turn resendable, frame-token (ring_header (current r)) (remembered r.turn) reads.0 reads.1)
 
   taken-event : event_seen (ring_header (current r)) (record { call = resending place frames; reply = Taken r }) ≡ ordered.event (station_seen r) (ordered.resending place)
   unfolding event_seen is_accepted
@@ -74,7 +84,7 @@ module _ (r : Record) (place : ℕ) (frames : List ℕ) (w : whole r ≡ true) (
         station = refl;
         event = taken-event;
         ring = refl;
-        written = rw within (token-rewrites (remembered r.turn) reads, tt);
+        written = rw within (token-rewrites (remembered r.turn) reads.0 reads.1, tt);
       }
 
 -- ---- either way

@@ -1,12 +1,16 @@
 -- How a call is seen, once it is known what its reply is.
 use Prim.Native.Nat.{ℕ}
 use mathlib.Core.Path.{◌≡◌, refl, sym, ap, subst, ◌∙◌}
-use mathlib.Core.Bool.{false, and-false}
+use mathlib.Core.Bool.{false}
 use mathlib.Core.List.{List, [], map}
 use mathlib.Core.Option.{Option, none, some}
 use Rattle.frames.specs.Read.{read_of}
 use Rattle.frames.specs.declared.header.Header.{Header}
-use Rattle.record.specs.Ring.{current, is_token}
+use Rattle.frames.specs.declared.refusal.Refusal.{Refusal}
+use Rattle.frames.specs.declared.reader.Frame.{Frame}
+use Rattle.frames.specs.declared.reader.Frame.TheVariants.{Message as IsMessage, Token as IsToken}
+use Rattle.std.specs.Prelude.{Result, Ok, Err}
+use Rattle.record.specs.Ring.{current}
 use Rattle.record.specs.declared.Record.{Record}
 use Rattle.station.specs.Reply.{Reply}
 use Rattle.visit.specs.Deliver.{ring_header}
@@ -18,7 +22,7 @@ use Rattle.ordering.specs.inner.Station.{Station, Store}
 use Rattle.ordering.specs.inner.History as cable
 use Rattle.ordering.specs.inner.Run as ordered
 use Rattle.ring.specs.Calls.{Call, station_of, reply_to}
-use Rattle.ring.specs.History.{any_of, accepts_token, is_accepted, handed_over, said_kept}
+use Rattle.ring.specs.History.{any_of, next_among, accepts_token, is_accepted, handed_over, said_kept}
 use Rattle.ring.proofs.seen.View.{station_seen, event_seen, message_in, kept_by}
 use Rattle.ring.proofs.seen.Law.{Rewrites, SeenAs}
 
@@ -49,7 +53,12 @@ no_frames = refl
 pub none-accepted : (handed : Option (List ℕ)) → accepts_token handed [] ≡ false
 unfolding any_of
 none-accepted none = refl
-none-accepted (some frame) = and-false (is_token (read_of frame).answer)
+none-accepted (some frame) = go (read_of frame)
+  where
+    go : (r : Result Frame Refusal) → next_among r [] ≡ false
+    go (Err why) = refl
+    go (Ok (IsMessage m)) = refl
+    go (Ok (IsToken t)) = refl
 
 -- what a call that writes nothing did
 abbrev pub unwritten : Call → Reply → cable.Event

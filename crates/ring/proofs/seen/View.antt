@@ -3,13 +3,13 @@ use Prim.Native.Nat.{ℕ}
 use mathlib.Core.Bool.{Bool, not, cond}
 use mathlib.Core.List.{List, [], map}
 use mathlib.Core.Option.{Option, none, some}
+use Rattle.std.specs.Prelude.{Option as RustOption, Some, None, Result, Ok, Err}
 use Rattle.frames.specs.Read.{read_of}
 use Rattle.frames.specs.declared.header.Header.{Header}
-use Rattle.frames.specs.declared.token.Blocker.{Blocker}
-use Rattle.frames.specs.declared.token.Blocker.TheVariants.{Nobody, Member}
 use Rattle.frames.specs.declared.token.Token.{Token}
-use Rattle.frames.specs.declared.reader.Answer.{Answer}
-use Rattle.frames.specs.declared.reader.Answer.TheVariants.{Refused, IsMessage, IsToken}
+use Rattle.frames.specs.declared.refusal.Refusal.{Refusal}
+use Rattle.frames.specs.declared.reader.Frame.{Frame}
+use Rattle.frames.specs.declared.reader.Frame.TheVariants.{Message as IsMessage, Token as IsToken}
 use Rattle.record.specs.Held.{Entry}
 use Rattle.record.proofs.HeldLaws.{held_at}
 use Rattle.record.specs.Turn.{may_resend, remembered}
@@ -27,9 +27,9 @@ use Rattle.ring.specs.History.{Event, place, written_by, handed_over, said_kept,
 
 -- ---- frames
 
-abbrev pub seen_blocker : Blocker → Option ℕ
-seen_blocker Nobody = none
-seen_blocker (Member id) = some id
+abbrev pub seen_blocker : RustOption ℕ → Option ℕ
+seen_blocker None = none
+seen_blocker (Some id) = some id
 
 abbrev pub seen_token : Token → List ℕ → seen.Token
 seen_token t text =
@@ -42,27 +42,36 @@ seen_token t text =
       text = text;
     }
 
+-- what is no token passes for one of zeros
+abbrev no_token : List ℕ → seen.Token
+no_token text = record { number = 0; addressee = 0; highest = 0; aru = 0; blocker = none; text = text }
+
+abbrev pub token_by : List ℕ → Result Frame Refusal → seen.Token
+token_by frame (Err why) = no_token frame
+token_by frame (Ok (IsMessage m)) = no_token frame
+token_by frame (Ok (IsToken t)) = seen_token t frame
+
 -- the token in a frame
 abbrev pub token_in : List ℕ → seen.Token
-token_in frame = seen_token (read_of frame).token frame
+token_in frame = token_by frame (read_of frame)
 
 -- the message in a frame
-abbrev pub message_number : Answer → ℕ
-message_number (Refused why) = 0
-message_number (IsMessage m) = m.number.0
-message_number IsToken = 0
+abbrev pub message_number : Result Frame Refusal → ℕ
+message_number (Err why) = 0
+message_number (Ok (IsMessage m)) = m.number.0
+message_number (Ok (IsToken t)) = 0
 
 unfoldable pub message_in : List ℕ → seen.Message
-message_in frame = record { number = message_number (read_of frame).answer; safe = says_safe (read_of frame).answer; text = frame }
+message_in frame = record { number = message_number (read_of frame); safe = says_safe (read_of frame); text = frame }
 
 -- a message of the ring is a message; anything else passes for a token
-abbrev pub frame_by : Header → List ℕ → Answer → seen.Frame
-frame_by ring frame (Refused why) = seen.token (token_in frame)
-frame_by ring frame (IsMessage m) = cond (same_ring ring m.header) (seen.message (message_in frame)) (seen.token (token_in frame))
-frame_by ring frame IsToken = seen.token (token_in frame)
+abbrev pub frame_by : Header → List ℕ → Result Frame Refusal → seen.Frame
+frame_by ring frame (Err why) = seen.token (token_in frame)
+frame_by ring frame (Ok (IsMessage m)) = cond (same_ring ring m.header) (seen.message (message_in frame)) (seen.token (token_in frame))
+frame_by ring frame (Ok (IsToken t)) = seen.token (token_in frame)
 
 unfoldable pub frame_seen : Header → List ℕ → seen.Frame
-frame_seen ring frame = frame_by ring frame (read_of frame).answer
+frame_seen ring frame = frame_by ring frame (read_of frame)
 
 -- ---- a station
 

@@ -1,15 +1,17 @@
 -- A token that is accepted is seen as a visit.
-use Prim.Native.Nat.{ℕ, suc, ◌+◌}
+use Prim.Native.Nat.{ℕ, suc}
 use mathlib.Core.Path.{◌≡◌, refl, sym, ap, subst, ◌∙◌}
-use mathlib.Core.Bool.{true, ◌&&◌, cond}
+use mathlib.Core.Bool.{true, cond}
 use mathlib.Core.List.{List, [], map}
 use mathlib.Core.Option.{none, some}
 use native.Mathlib.Numerals.{add-one}
 use Rattle.frames.specs.Read.{read_of, a_token}
 use Rattle.frames.specs.declared.token.Token.{Token}
-use Rattle.frames.specs.declared.reader.Reading.{Reading}
+use Rattle.std.specs.Prelude.{Result}
+use Rattle.frames.specs.declared.refusal.Refusal.{Refusal}
+use Rattle.frames.specs.declared.reader.Frame.{Frame}
 use Rattle.record.specs.Held.{let_go}
-use Rattle.record.specs.Ring.{current, ids, is_token}
+use Rattle.record.specs.Ring.{current, ids}
 use Rattle.record.specs.declared.Record.{Record}
 use Rattle.visit.specs.Deliver.{ring_header, delivered}
 use Rattle.visit.specs.Visit.{Visit, log, safe', aru', level', log_now, log', turn', rec', written}
@@ -24,7 +26,7 @@ use Rattle.ordering.specs.inner.Visit as visit
 use Rattle.ordering.specs.inner.Run as ordered
 use Rattle.ring.specs.Calls.{arrival, reply_to}
 use Rattle.ring.specs.History as called
-use Rattle.ring.specs.History.{is_token_numbered, any_of, accepts_token}
+use Rattle.ring.specs.History.{next_among, accepts_token}
 use Rattle.ring.specs.Newest.{last_of}
 use Rattle.ring.proofs.seen.View.{token_in, message_in, seen_token, station_seen, frame_seen, event_seen}
 use Rattle.ring.proofs.seen.Law.{Rewrites, Sight, as-visit}
@@ -83,7 +85,7 @@ module _ (v : Visit) (ok : Acceptable v) (frame : List ℕ) where
   module _ (read : read_of frame ≡ a_token v.token) where
     pub accepts : accepts_token (some frame) (written v) ≡ true
     accepts =
-        ap (λ (r : Reading). is_token r.answer && any_of (is_token_numbered (r.token.number.0 + 1)) (written v)) read
+        ap (λ (r : Result Frame Refusal). next_among r (written v)) read
         ∙ next-written v ok
 
     forwards : cond (accepts_token (some frame) (written v)) (some (token_in (last_of [] (written v)))) none ≡ some (visit.token_after (station_seen v.rec) (seen_token v.token frame) (chosen v))

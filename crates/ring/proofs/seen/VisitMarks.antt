@@ -8,8 +8,7 @@ use native.Mathlib.Omega.{arith}
 use lib.ListN.{length, length-map}
 use lib.Dec.{eqb}
 use Rattle.frames.specs.Token.{token_bytes}
-use Rattle.frames.specs.declared.token.Blocker.{Blocker}
-use Rattle.frames.specs.declared.token.Blocker.TheVariants.{Nobody, Member}
+use Rattle.std.specs.Prelude.{Option as RustOption, Some, None}
 use Rattle.record.specs.Size.{most_held}
 use Rattle.record.specs.Held.{let_go}
 use Rattle.record.proofs.HeldLaws.{held-sizes}
@@ -39,8 +38,8 @@ chosen v =
     }
 
 -- the blocker that is written
-blocker-by : (sets nobody : Bool) (own : ℕ) (b : Blocker)
-    → cond sets (cond nobody none (some own)) (seen_blocker b) ≡ seen_blocker (cond sets (cond nobody Nobody (Member own)) b)
+blocker-by : (sets nobody : Bool) (own : ℕ) (b : RustOption ℕ)
+    → cond sets (cond nobody none (some own)) (seen_blocker b) ≡ seen_blocker (cond sets (cond nobody None (Some own)) b)
 blocker-by true true own b = refl
 blocker-by true false own b = refl
 blocker-by false nobody own b = refl
@@ -71,10 +70,10 @@ module _ (v : Visit) (ok : Acceptable v) (frame : List ℕ) where
   unfolding highest'
   highest-after = rw new-count
 
-  own-or-nobody : (b : Blocker) → visit.own_or_nobody station token (chosen v) (seen_blocker b) ≡ own_or_nobody (own v) b
+  own-or-nobody : (b : RustOption ℕ) → visit.own_or_nobody station token (chosen v) (seen_blocker b) ≡ own_or_nobody (own v) b
   unfolding station_seen
-  own-or-nobody Nobody = refl
-  own-or-nobody (Member id) = refl
+  own-or-nobody None = refl
+  own-or-nobody (Some id) = refl
 
   lowers : visit.lowers station token (chosen v) ≡ sets_aru v
   unfolding sets_aru

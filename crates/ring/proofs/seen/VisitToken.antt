@@ -14,7 +14,9 @@ use Rattle.words.specs.Run.{words_bytes}
 use Rattle.frames.specs.Layout.{longest_token}
 use Rattle.frames.specs.Token.{request_numbers, token_fixed, token_bytes}
 use Rattle.frames.specs.declared.token.Token.{Token}
-use Rattle.frames.specs.declared.reader.Reading.{Reading}
+use Rattle.std.specs.Prelude.{Result}
+use Rattle.frames.specs.declared.refusal.Refusal.{Refusal}
+use Rattle.frames.specs.declared.reader.Frame.{Frame}
 use Rattle.frames.proofs.Sizes.{token-fixed-length}
 use Rattle.record.specs.Ring.{ids}
 use Rattle.record.specs.Turn.{may_resend, remembered}
@@ -23,7 +25,7 @@ use Rattle.visit.specs.Acceptable.{Acceptable}
 use Rattle.visit.proofs.TokenLaws.{token-reads}
 use Rattle.ordering.specs.inner.Frame as seen
 use Rattle.ordering.specs.inner.Visit as visit
-use Rattle.ring.proofs.seen.View.{seen_blocker, seen_token, token_in, resendable_of, station_seen}
+use Rattle.ring.proofs.seen.View.{seen_blocker, seen_token, token_by, token_in, resendable_of, station_seen}
 use Rattle.ring.proofs.seen.VisitMarks.{chosen, highest-after, aru-after, blocker-after}
 
 -- ---- the next member
@@ -79,7 +81,7 @@ module _ (v : Visit) (ok : Acceptable v) (frame : List ℕ) where
 
   -- the token in its bytes
   pub token-after : token_in (token_bytes (token' v)) ≡ after
-  token-after = ap (λ (r : Reading). seen_token r.token (token_bytes (token' v))) (token-reads v ok) ∙ values-after
+  token-after = ap (λ (r : Result Frame Refusal). token_by (token_bytes (token' v)) r) (token-reads v ok) ∙ values-after
 
   -- ---- it may be resent
 

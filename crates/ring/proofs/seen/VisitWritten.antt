@@ -8,9 +8,7 @@ use mathlib.Core.Option.{some}
 use borrow.Author.Tests.{eq-eqb}
 use native.Mathlib.Omega.{arith}
 use Rattle.frames.specs.Token.{token_bytes}
-use Rattle.frames.specs.Read.{read_of}
 use Rattle.frames.specs.declared.header.Header.{Header}
-use Rattle.frames.specs.declared.reader.Reading.{Reading}
 use Rattle.record.specs.declared.log.Log.{Log}
 use Rattle.visit.specs.Deliver.{ring_header, frame_of}
 use Rattle.visit.specs.Visit.{Visit, log, repeats, new_count, new_numbers, log_now, token', written}
@@ -25,7 +23,6 @@ use Rattle.ordering.specs.Lists.{Among}
 use Rattle.ordering.specs.inner.Frame as seen
 use Rattle.ordering.specs.inner.Visit as visit
 use Rattle.ordering.specs.inner.Visit.{NumberedFrom, Allowed}
-use Rattle.record.specs.Ring.{is_token}
 use Rattle.ring.specs.History.{is_token_numbered, any_of}
 use Rattle.ring.specs.Newest.{last_of}
 use Rattle.ring.proofs.seen.View.{seen_token, store_of, station_seen, frame_seen}
@@ -82,9 +79,6 @@ module _ (v : Visit) (ok : Acceptable v) where
   pub last_written : last_of [] (written v) ≡ token_bytes (token' v)
   last_written = rw written_last (last-of [] messages (token_bytes (token' v)))
 
-  token-there : is_token (read_of (token_bytes (token' v))).answer ≡ true
-  token-there = ap (λ (r : Reading). is_token r.answer) (token-reads v ok)
-
   numbered-there : is_token_numbered (v.token.number.0 + 1) (token_bytes (token' v)) ≡ true
   unfolding is_token_numbered token'
   numbered-there = rw (token-reads v ok) (eq-eqb (v.token.number.0 + 1) (v.token.number.0 + 1) refl)
@@ -100,7 +94,7 @@ module _ (v : Visit) (ok : Acceptable v) where
       (each_append Rewrites (map (frame_of (log v)) (repeats v)) (map (frame_of (log_now v)) (new_numbers v))
       (all-rewrite (log v) (repeats v) (visit-reads v ok).repeated)
       (all-rewrite (log_now v) (new_numbers v) (visit-reads v ok).sent))
-      (token-rewrites (token_bytes (token' v)) token-there, tt)
+      (token-rewrites (token_bytes (token' v)) (token' v) (token-reads v ok), tt)
 
   module _ (frame : List ℕ) where
     pub written_after : map (frame_seen (ring_header (log v))) (written v) ≡ visit.visit_writes (station_seen v.rec) (seen_token v.token frame) (chosen v)
@@ -113,7 +107,7 @@ module _ (v : Visit) (ok : Acceptable v) where
           map-append f (map (frame_of (log v)) (repeats v)) (map (frame_of (log_now v)) (new_numbers v)),
           all_seen (log v) ring refl (repeats v) (visit-reads v ok).repeated,
           all_seen (log_now v) ring (sym (now-ring v ok)) (new_numbers v) (visit-reads v ok).sent,
-          frame-token ring (token_bytes (token' v)) token-there,
+          frame-token ring (token_bytes (token' v)) (token' v) (token-reads v ok),
           token-after v ok frame,
         )
 

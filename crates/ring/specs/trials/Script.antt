@@ -1,11 +1,12 @@
 -- Document 01's bench script as a list of calls, and the lines that it prints: demand 3 is not about nothing. [document 01, Trials: the bench]
-use Rattle.std.specs.Prelude.{ℕ, zero, suc, ◌≡◌, Bool, true, false, ◌&&◌, cond, List, [], ◌∷◌, ◌++◌, map, length, replicate, eqb}
+use Rattle.std.specs.Prelude.{ℕ, zero, suc, ◌≡◌, Bool, true, false, ◌&&◌, cond, List, [], ◌∷◌, ◌++◌, map, length, replicate, eqb, unwrap_or, Result, Ok, Err}
 use Rattle.std.proofs.Math.Option.{Option, none, some}
 use Rattle.frames.specs.Message.{content_of}
 use Rattle.frames.specs.Read.{read_of}
 use Rattle.frames.specs.trials.Trials.{same}
-use Rattle.frames.specs.declared.reader.Answer.{Answer}
-use Rattle.frames.specs.declared.reader.Answer.TheVariants.{Refused, IsMessage, IsToken}
+use Rattle.frames.specs.declared.refusal.Refusal.{Refusal}
+use Rattle.frames.specs.declared.reader.Frame.{Frame}
+use Rattle.frames.specs.declared.reader.Frame.TheVariants.{Message as IsMessage, Token as IsToken}
 use Rattle.visit.specs.Output.{most_frames, most_deliveries}
 use Rattle.record.specs.declared.Record.{Record}
 use Rattle.ring.specs.Calls.{Call, post, arrival, reply_to}
@@ -13,7 +14,7 @@ use Rattle.ring.specs.History.{Event, Written, place, written_by, reading, deliv
 use Rattle.ring.specs.Run.{Ring, records, first_frame, ring_of, start, run, structs, over_structs}
 use Rattle.ring.specs.Demand.{CanAfter}
 use Rattle.ring.specs.Newest.{newest}
-use Rattle.ring.specs.Stations.{place_from}
+use Rattle.ring.specs.Stations.{place_from, addressee_of}
 
 -- ---- r 4 3 7
 
@@ -48,7 +49,7 @@ hands_on s token p =
 unfoldable pub tick : Ring Record → List Call
 tick s =
     let token = newest (first_frame script_members script_ring) s.history in
-    hands_on s token (place_from 0 script_members (read_of token).token.addressee)
+    hands_on s token (unwrap_or (place_from 0 script_members (addressee_of (read_of token))) (length script_members))
 
 unfoldable pub ticks : ℕ → Ring Record → List Call
 ticks zero s = []
@@ -79,14 +80,14 @@ pub record Line : Type 0 where
   pub service : ℕ
   pub content : List ℕ
 
-abbrev pub line_by : ℕ → List ℕ → Answer → Line
-line_by p frame (Refused why) = record { place = p; number = 0; sender = 0; service = 0; content = [] }
-line_by p frame (IsMessage m) = record { place = p; number = m.number.0; sender = m.sender; service = m.service; content = content_of frame }
-line_by p frame IsToken = record { place = p; number = 0; sender = 0; service = 0; content = [] }
+abbrev pub line_by : ℕ → List ℕ → Result Frame Refusal → Line
+line_by p frame (Err why) = record { place = p; number = 0; sender = 0; service = 0; content = [] }
+line_by p frame (Ok (IsMessage m)) = record { place = p; number = m.number.0; sender = m.sender; service = m.service; content = content_of frame }
+line_by p frame (Ok (IsToken t)) = record { place = p; number = 0; sender = 0; service = 0; content = [] }
 
 unfoldable pub lines_of : List Event → List Line
 lines_of [] = []
-lines_of (e ∷ earlier) = lines_of earlier ++ map (λ f. line_by (place e) f (read_of f).answer) (handed_by e)
+lines_of (e ∷ earlier) = lines_of earlier ++ map (λ f. line_by (place e) f (read_of f)) (handed_by e)
 
 -- what document 01 has it print
 abbrev line : ℕ → ℕ → ℕ → ℕ → List ℕ → Line

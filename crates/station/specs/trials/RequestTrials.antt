@@ -1,7 +1,6 @@
 -- Trials of document 02's requests. [document 02, Jobs 1 and 2]
-use Rattle.std.specs.Prelude.{ℕ, List, [], ◌∷◌, ◌++◌}
+use Rattle.std.specs.Prelude.{ℕ, List, [], ◌∷◌, ◌++◌, None}
 use Rattle.frames.specs.Token.{token_bytes}
-use Rattle.frames.specs.declared.token.Blocker.TheVariants.{Nobody}
 use Rattle.record.specs.declared.Record.{Record}
 use Rattle.station.specs.Reply.{Reply}
 use Rattle.visit.specs.trials.Sample.{Trial, row, row_of, station, reached_with, turn_waited, token_carrying}
@@ -13,7 +12,7 @@ use Rattle.station.specs.trials.ArrivalTrials.{heard1, heard2, once, twice}
 
 -- n posts wait at a station with this own part of the backlog; a token with this backlog
 abbrev pub shared : ℕ → ℕ → ℕ → Reply
-shared n waited backlog = arrives (loaded_with n (reached_with 0 (turn_waited 0 0 0 waited))) (token_bytes (token_carrying 4 7 4 0 0 Nobody 0 backlog []))
+shared n waited backlog = arrives (loaded_with n (reached_with 0 (turn_waited 0 0 0 waited))) (token_bytes (token_carrying 4 7 4 0 0 None 0 backlog []))
 
 abbrev pub sharing : List Trial
 sharing =

@@ -1,41 +1,34 @@
 -- What arrival's code hands from one step to the next, in the terms of Message.antt and Visit.antt. Nothing new is said here: each field
 -- is a quantity of theirs, and each condition follows from theirs.
-use Rattle.std.specs.Prelude.{ℕ, ◌+◌, ◌-◌, ◌≤◌, ◌≡◌, true, ◌||◌, cond, List, ◌++◌, map, length, get_or, take, replicate, ltb, eqb}
-use Rattle.frames.specs.Layout.{most_content, most_requests}
-use Rattle.frames.specs.Message.{message_follows, message_bytes}
-use Rattle.frames.specs.declared.header.Header.{Header}
+use Rattle.std.specs.Prelude.{ℕ, ◌+◌, ◌≡◌, true, ◌||◌, cond, List, ◌++◌, map, length, ltb, eqb, Option, Some, None}
+use Rattle.frames.specs.Message.{message_follows}
 use Rattle.frames.specs.declared.message.Message.{Message}
 use Rattle.frames.specs.declared.number.MessageNumber.{MessageNumber}
-use Rattle.frames.specs.declared.token.Blocker.{Blocker}
-use Rattle.frames.specs.declared.token.Blocker.TheVariants.{Nobody, Member}
-use Rattle.record.specs.Size.{held_contents}
-use Rattle.record.specs.inner.Head.{head_with, head_with_parts, head_of}
-use Rattle.record.specs.Held.{place_of, entry_at}
+use Rattle.record.specs.inner.Head.{head_with, head_with_parts, head_of, log_on, record_in}
 use Rattle.record.specs.declared.head.LogHead.{LogHead}
 use Rattle.record.specs.declared.head.Head.{Head}
-use Rattle.record.specs.declared.log.Held.{Held}
 use Rattle.record.specs.declared.log.Log.{Log}
 use Rattle.visit.specs.Deliver.{ring_header, entry_of, frame_of, joined}
 use Rattle.visit.specs.Message.{entry_in, resend_ended}
+use Rattle.visit.specs.Acceptable.{visit}
 use Rattle.visit.specs.Visit.{Visit, log, unanswered, repeats, new_count, new_numbers, log_now, own_or_nobody, aru', blocker', safe', deaf, broadcasts, turn'}
-use Rattle.visit.specs.declared.requests.Requests.{Requests}
 use Rattle.visit.specs.declared.broadcasting.Sent.{Sent}
 use Rattle.visit.specs.declared.marks.Reach.{Reach}
 use Rattle.visit.specs.declared.forwarding.Forwarded.{Forwarded}
+use Rattle.visit.specs.declared.held_log.HeldLog.{HeldLog}
+use Rattle.visit.specs.declared.token_visit.TokenVisit.{TokenVisit}
 
--- ---- a held message's frame, from the arrays that hold it
+-- the visit that these make up
+abbrev pub visit_of : TokenVisit → Visit
+visit_of v = visit (record_in v.head.now v.bytes.now) v.token.now
 
-abbrev pub held_message : Header → Held → ℕ → Message
-held_message header h n = record { header = header; sender = (entry_at h (place_of n)).sender; number = record { 0 = n }; service = (entry_at h (place_of n)).service }
+-- ---- a log that is lent, and the frames of numbers that it holds, one after another
 
-abbrev pub held_frame : Header → Held → ℕ → List ℕ
-held_frame header h n = message_bytes (held_message header h n) (entry_at h (place_of n)).content
+abbrev pub held_log : HeldLog → Log
+held_log h = log_on h.log.now h.contents.now
 
--- it can be written
-pub record Frameable (header : Header) (h : Held) (n : ℕ) : Type 0 where
-  pub follows : message_follows (held_message header h n) (entry_at h (place_of n)).content ≡ true
-  pub short : get_or h.lengths (place_of n) 0 ≤ most_content
-  pub long : length h.contents ≡ held_contents
+abbrev pub frames_of : Log → List ℕ → List ℕ
+frames_of l numbers = joined (map (frame_of l) numbers)
 
 -- ---- a message that has just been kept: it is held as it came
 pub record JustKept (l : Log) (m : Message) (content : List ℕ) : Type 0 where
@@ -50,14 +43,6 @@ head_delivered l n = head_with l l.level l.safe (record { 0 = l.delivered.0 + n 
 -- its delivery over: the log's new head, and the leave to resend has ended
 abbrev pub head_heard : Head → LogHead → Head
 head_heard h log = head_with_parts h log (resend_ended h.turn) h.posts
-
--- ---- a list of numbers in a token's places, zero past them
-unfoldable pub listed : List ℕ → Requests
-listed xs = record { count = length xs; numbers = xs ++ replicate (most_requests - length xs) 0 }
-
--- the list in those places
-abbrev pub list_in : Requests → List ℕ
-list_in r = take r.count r.numbers
 
 -- step 2, written out
 abbrev pub repeat_frames : Visit → List (List ℕ)
@@ -75,19 +60,19 @@ unfoldable pub sent_of : Visit → Sent
 sent_of v =
     record {
       log = head_of (log_now v);
-      rest = listed (unanswered v);
+      rest = unanswered v;
       added = new_count v;
       count = broadcasts v;
       size = length (joined (repeat_frames v));
     }
 
 -- step 4, from the level, the highest number, and the token's aru and blocker
-abbrev pub reach_after : ℕ → MessageNumber → MessageNumber → MessageNumber → Blocker → Reach
+abbrev pub reach_after : ℕ → MessageNumber → MessageNumber → MessageNumber → Option ℕ → Reach
 reach_after own level highest aru blocker =
     let sets = ltb level.0 aru.0 || own_or_nobody own blocker in
     record {
       aru = cond sets level aru;
-      blocker = cond sets (cond (eqb level.0 highest.0) Nobody (Member own)) blocker;
+      blocker = cond sets (cond (eqb level.0 highest.0) None (Some own)) blocker;
     }
 
 -- after step 4

@@ -1,8 +1,7 @@
 -- The form of a row, and sample stations and tokens. [document 01, Trials]
-use Rattle.std.specs.Prelude.{ℕ, zero, suc, ◌-◌, Bool, true, ◌&&◌, cond, List, [], ◌∷◌, ◌++◌, length, set, replicate, eqb}
+use Rattle.std.specs.Prelude.{ℕ, zero, suc, ◌-◌, Bool, true, ◌&&◌, cond, List, [], ◌∷◌, ◌++◌, length, set, replicate, eqb, Option}
 use Rattle.frames.specs.Layout.{most_requests}
 use Rattle.frames.specs.trials.Trials.{same, header}
-use Rattle.frames.specs.declared.token.Blocker.{Blocker}
 use Rattle.frames.specs.Token.{numbered}
 use Rattle.frames.specs.declared.token.Token.{Token}
 use Rattle.record.specs.Held.{place_of, log_with}
@@ -87,7 +86,7 @@ level10 = reached_to 10
 
 -- ---- tokens: ring number, addressee, token number, highest, aru, blocker, round count, backlog, requests
 
-abbrev pub token_carrying : ℕ → ℕ → ℕ → ℕ → ℕ → Blocker → ℕ → ℕ → List ℕ → Token
+abbrev pub token_carrying : ℕ → ℕ → ℕ → ℕ → ℕ → Option ℕ → ℕ → ℕ → List ℕ → Token
 token_carrying ring addressee n highest aru blocker round backlog requests =
     record {
       header = header ring;
@@ -103,5 +102,5 @@ token_carrying ring addressee n highest aru blocker round backlog requests =
     }
 
 -- with backlog 0
-abbrev pub token_with : ℕ → ℕ → ℕ → ℕ → ℕ → Blocker → ℕ → List ℕ → Token
+abbrev pub token_with : ℕ → ℕ → ℕ → ℕ → ℕ → Option ℕ → ℕ → List ℕ → Token
 token_with ring addressee n highest aru blocker round requests = token_carrying ring addressee n highest aru blocker round 0 requests

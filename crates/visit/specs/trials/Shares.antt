@@ -1,6 +1,5 @@
 -- Trials of step 1: what is allowed, of the quantities alone; the table of the crate above looks at what is sent. [document 02, Job 1]
-use Rattle.std.specs.Prelude.{ℕ, List, [], ◌∷◌}
-use Rattle.frames.specs.declared.token.Blocker.TheVariants.{Nobody}
+use Rattle.std.specs.Prelude.{ℕ, List, [], ◌∷◌, None}
 use Rattle.record.specs.Fresh.{fresh_posts}
 use Rattle.record.specs.Parts.{with_parts}
 use Rattle.record.specs.declared.posts.Posts.{Posts}
@@ -19,7 +18,7 @@ busy n waited = with_parts station station.log (turn_waited 0 0 0 waited) (waiti
 
 -- a token with this round count and backlog
 abbrev pub visits : Record → ℕ → ℕ → Visit
-visits r round backlog = visit r (token_carrying 4 7 4 0 0 Nobody round backlog [])
+visits r round backlog = visit r (token_carrying 4 7 4 0 0 None round backlog [])
 
 abbrev pub allowing : List Trial
 allowing =

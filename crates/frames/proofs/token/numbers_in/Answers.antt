@@ -1,15 +1,17 @@
-use native.Mathlib.Omega.{arith}
 use borrow.Author.Rules.{rules}
+use native.Mathlib.Omega.{arith}
+use mathlib.Core.Path.{◌≡◌}
+use lib.ListN.{length}
+use Rattle.frames.specs.Layout.{most_requests}
 use Rattle.frames.specs.Token.{numbers_in}
-use Rattle.frames.proofs.NumberedLaws.{mapping-starts, mapping-goes, mapping-ends}
+use Rattle.frames.specs.declared.number.MessageNumber.{MessageNumber}
+use Rattle.frames.proofs.NumberedLaws.{mapped}
 use Rattle.frames.proofs.token.numbers_in.Goals as goal
-
-pub loop-i-init : goal.loop-i-init
-loop-i-init c = mapping-starts _ _ _ (search rules)
-
-pub loop-i-preserved : goal.loop-i-preserved
-loop-i-preserved c = mapping-goes _ _ _ _ _ c.loop-i.invariant (omega arith)
 
 pub returns : goal.returns
 unfolding numbers_in
-returns c = mapping-ends _ _ _ _ c.loop-i.invariant (omega arith)
+returns c =
+    let places : length c.args.requests ≡ most_requests = search rules in
+    let long : length c.map.result ≡ most_requests = c.map.ensures.items.long in
+    let zero : MessageNumber = record { 0 = 0 } in
+    mapped (λ (n : MessageNumber). n.0) _ _ zero (omega (arith, places, long)) (λ k b h. let called = (c.map.ensures.items.at k zero b (omega (arith, h, places))).2 in search rules)

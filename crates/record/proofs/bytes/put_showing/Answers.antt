@@ -19,4 +19,4 @@ returns c =
     let token : length c.args.h.turn.token ≡ longest_token = search rules in
     let services : length c.args.h.posts.services ≡ most_posts = search rules in
     let lengths : length c.args.h.posts.lengths ≡ most_posts = search rules in
-    head-stored _ _ _ _ _ _ _ _ log token services lengths c.requires c.put_u16.ensures c.put_u8.ensures c.put_log_head.ensures c.put_turn.ensures c.put_posts_head.ensures
+    head-stored _ _ _ _ _ _ _ _ log token services lengths c.requires c.put.ensures c.put-2.ensures c.put_log_head.ensures c.put_turn.ensures c.put_posts_head.ensures

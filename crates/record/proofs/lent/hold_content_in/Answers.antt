@@ -5,7 +5,7 @@ use Rattle.record.proofs.lent.hold_content_in.Goals as goal
 pub returns : goal.returns
 returns c =
     let s = c.args.s.now in
-    let w = c.put_bytes.new.out in
-    let kept = c.put_bytes.auto.out in
-    let copied = content-copied s _ _ c.args.post c.args.size c.requires.0 c.requires.1 c.requires.2 c.get_bytes.ensures in
-    (contents-put s w c.requires.0 kept ∙ rw copied at c.put_bytes.ensures, behind-left s w c.requires.0 kept)
+    let w = c.put_slice.new.out in
+    let kept = c.put_slice.auto.out in
+    let copied = content-copied s _ _ c.args.post c.args.size c.requires.0 c.requires.1 c.requires.2 c.get_slice.ensures in
+    (contents-put s w c.requires.0 kept ∙ rw (c.place_of-place.ensures, copied) at c.put_slice.ensures, behind-left s w c.requires.0 kept)

@@ -3,12 +3,12 @@ use Rattle.record.proofs.log_bytes.get_log_head.Goals as goal
 
 pub returns : goal.returns
 returns c = log-read _ _ _ _ _ _ _ _ _ _
-    c.get_u32.ensures
-    c.get_u8.ensures
-    c.get_u16s.ensures
-    c.get_u32-2.ensures
-    c.get_u32-3.ensures
-    c.get_u32-4.ensures
-    c.get_u16s-2.ensures
-    c.get_u16s-3.ensures
-    c.get_bytes.ensures
+    c.get.ensures
+    c.get-2.ensures
+    c.get_run.ensures
+    c.get-3.ensures
+    c.get-4.ensures
+    c.get-5.ensures
+    c.get_run-2.ensures
+    c.get_run-3.ensures
+    c.get_slice.ensures

@@ -1,4 +1,6 @@
+use mathlib.Core.Path.{◌∙◌}
+use Rattle.record.proofs.MemberLaws.{member-any}
 use Rattle.record.proofs.members.is_member.Goals as goal
 
 pub returns : goal.returns
-returns c = cc
+returns c = c.contains.ensures.value ∙ member-any _ _

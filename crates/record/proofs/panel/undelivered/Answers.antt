@@ -10,11 +10,11 @@ loop-i-init c = tally-starts _ _ _
 
 pub overflow_add-count : goal.overflow_add-count
 overflow_add-count c =
-    let one : c.one_if-count.result ≤ 1 = rw (c.one_if-count.ensures, c.numbers_before-before.ensures) (one-most (place_undelivered c.args.l.senders c.saturating_sub-past.result c.args.l.safe.0 c.loop-i.i)) in
+    let one : c.from-count.result ≤ 1 = rw (c.from-count.ensures, c.numbers_before-before.ensures) (one-most (place_undelivered c.args.l.senders c.saturating_sub-past.result c.args.l.safe.0 c.loop-i.i)) in
     omega (arith, one, c.loop-i.invariant.few, c.loop-i-test.true)
 
 pub loop-i-preserved : goal.loop-i-preserved
-loop-i-preserved c = rw (c.one_if-count.ensures, c.numbers_before-before.ensures) (rw zero-add at (tally-goes _ _ _ _ _ c.loop-i.invariant c.loop-i-test.true))
+loop-i-preserved c = rw (c.from-count.ensures, c.numbers_before-before.ensures) (rw zero-add at (tally-goes _ _ _ _ _ c.loop-i.invariant c.loop-i-test.true))
 
 pub returns : goal.returns
 returns c = λ contents. undelivered-by-place (log_on c.args.l contents) _ (rw c.saturating_sub-past.ensures at (tally-ends _ _ _ _ _ c.loop-i.invariant c.loop-i-test.false))

@@ -2,8 +2,8 @@ use native.Mathlib.Omega.{arith}
 use Rattle.record.specs.Posts.{queued}
 use Rattle.record.proofs.posts.queue_on.Goals as goal
 
-pub put_bytes-requires : goal.put_bytes-requires
-put_bytes-requires c =
+pub put_slice-requires : goal.put_slice-requires
+put_slice-requires c =
     omega (arith, c.requires)
 
 pub returns : goal.returns

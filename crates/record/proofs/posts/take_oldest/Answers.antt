@@ -9,11 +9,11 @@ use Rattle.record.proofs.posts.take_oldest.Goals.{Start}
 sizes : (c : Start) → PostsArrays (posts_on c.args.p c.args.waiting.now)
 sizes c = record { services = search rules; lengths = search rules; contents = c.requires.2 }
 
-pub copy_u16s-requires : goal.copy_u16s-requires
-copy_u16s-requires c = omega (arith, (sizes (goal.at.copy_u16s-requires c).Start).services, c.requires)
+pub get_slice-requires : goal.get_slice-requires
+get_slice-requires c = omega (arith, (sizes (goal.at.get_slice-requires c).Start).services, c.requires)
 
-pub get_bytes-requires : goal.get_bytes-requires
-get_bytes-requires c = omega (arith, (sizes (goal.at.get_bytes-requires c).Start).lengths, c.requires)
+pub get_slice-requires-2 : goal.get_slice-requires-2
+get_slice-requires-2 c = omega (arith, (sizes (goal.at.get_slice-requires-2 c).Start).lengths, c.requires)
 
 pub returns-then-n-eq0 : goal.returns-then-n-eq0
 returns-then-n-eq0 c = none-taken _ _ c.if-n-eq0.true
@@ -22,5 +22,5 @@ pub returns : goal.returns
 returns c =
     let few = c.requires in
     posts-taken (posts_on c.args.p c.args.waiting.now) c.args.n _ _ _ (sizes (goal.at.returns c).Start) (omega (arith, few))
-    c.copy_u16s.ensures c.get_bytes.ensures
+    c.get_slice.ensures c.get_slice-2.ensures
     (contents-taken _ _ _ c.args.n few.2 (omega (arith, few)) c.move_up.ensures c.clear_from.ensures)

@@ -13,11 +13,11 @@ services c = search rules
 lengths : (c : Start) → length c.args.p.lengths ≡ most_posts
 lengths c = search rules
 
-pub put_u16s-requires : goal.put_u16s-requires
-put_u16s-requires c = omega (arith, services (goal.at.put_u16s-requires c).Start, c.requires)
+pub put_run-requires : goal.put_run-requires
+put_run-requires c = omega (arith, services (goal.at.put_run-requires c).Start, c.requires)
 
-pub put_bytes-requires : goal.put_bytes-requires
-put_bytes-requires c = omega (arith, lengths (goal.at.put_bytes-requires c).Start, c.requires)
+pub put_slice-requires : goal.put_slice-requires
+put_slice-requires c = omega (arith, lengths (goal.at.put_slice-requires c).Start, c.requires)
 
 pub returns : goal.returns
-returns c = posts-stored _ _ _ _ _ _ (services (goal.at.returns c).Start) (lengths (goal.at.returns c).Start) c.requires c.put_u8.ensures c.put_u16s.ensures c.put_bytes.ensures
+returns c = posts-stored _ _ _ _ _ _ (services (goal.at.returns c).Start) (lengths (goal.at.returns c).Start) c.requires c.put.ensures c.put_run.ensures c.put_slice.ensures

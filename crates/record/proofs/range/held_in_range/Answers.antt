@@ -6,6 +6,7 @@ use borrow.Author.Rules.{rules}
 use mir.Val.{Fits}
 use mir.Syntax.{w16}
 use Rattle.record.specs.Size.{most_held}
+use Rattle.record.specs.inner.Head.{held_on}
 use Rattle.record.proofs.RangeLaws.{held-tested}
 use Rattle.record.proofs.range.held_in_range.Goals as goal
 
@@ -15,4 +16,4 @@ returns c =
     let services : length c.args.l.services ≡ most_held = search rules in
     let lengths : length c.args.l.lengths ≡ most_held = search rules in
     let fits : (i : ℕ) → Fits w16 (get_or c.args.l.senders i 0) = (λ i. search rules) in
-    held-tested _ senders services lengths c.requires (λ i. omega (arith, (fits i).fits)) _ _ c.all_within_u16.ensures c.all_within_u8.ensures
+    λ contents long. held-tested (held_on c.args.l contents) senders services lengths long (λ i. omega (arith, (fits i).fits)) _ _ c.all_within.ensures c.all_within-2.ensures

@@ -8,7 +8,7 @@ use Rattle.record.proofs.RangeLaws.{safe-refused, log-tested}
 use Rattle.record.proofs.range.log_in_range.Goals as goal
 
 pub returns-then-not-safe : goal.returns-then-not-safe
-returns-then-not-safe c = safe-refused _ (not-true _ c.if-not-safe.true-raw)
+returns-then-not-safe c = λ contents _. safe-refused (log_on c.args.l contents) (not-true _ c.if-not-safe.true-raw)
 
 pub numbers_in_range-requires : goal.numbers_in_range-requires
 numbers_in_range-requires c = leb-true _ _ (not-false _ c.if-not-safe.false-raw)
@@ -16,4 +16,4 @@ numbers_in_range-requires c = leb-true _ _ (not-false _ c.if-not-safe.false-raw)
 pub returns : goal.returns
 returns c =
     let members : length c.args.l.members ≡ most_members = search rules in
-    log-tested (log_on c.args.l c.args.contents.now) members (not-false _ c.if-not-safe.false-raw) _ _ c.held_in_range.ensures c.numbers_in_range.ensures
+    λ contents long. log-tested (log_on c.args.l contents) members (not-false _ c.if-not-safe.false-raw) _ _ (c.held_in_range.ensures contents long) (c.numbers_in_range.ensures contents)

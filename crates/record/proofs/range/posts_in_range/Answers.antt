@@ -10,4 +10,4 @@ pub returns : goal.returns
 returns c =
     let services : length c.args.p.services ≡ most_posts = search rules in
     let lengths : length c.args.p.lengths ≡ most_posts = search rules in
-    posts-tested (posts_on c.args.p c.args.waiting.now) services lengths c.requires _ _ c.all_within_u16.ensures c.all_within_u8.ensures
+    λ waiting long. posts-tested (posts_on c.args.p waiting) services lengths long _ _ c.all_within.ensures c.all_within-2.ensures

@@ -9,8 +9,8 @@ use Rattle.record.proofs.unused.posts_unused_zero.Goals as goal
 pub contents_padded-requires : goal.contents_padded-requires
 contents_padded-requires c =
     let lengths : length c.args.p.lengths ≡ most_posts = search rules in
-    omega (arith, lengths, c.requires)
+    omega (arith, lengths, c.told-waiting)
 
 pub returns : goal.returns
 unfolding posts_unused_zero
-returns c = rw (c.zero_from_u16.ensures, c.zero_from_u8.ensures, c.contents_padded.ensures)
+returns c = rw (c.zero_from.ensures, c.zero_from-2.ensures, c.contents_padded.ensures)

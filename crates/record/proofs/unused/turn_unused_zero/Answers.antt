@@ -3,4 +3,4 @@ use Rattle.record.proofs.unused.turn_unused_zero.Goals as goal
 
 pub returns : goal.returns
 unfolding turn_unused_zero
-returns c = c.zero_from_u8.ensures
+returns c = c.zero_from.ensures

@@ -25,4 +25,4 @@ pub returns : goal.returns
 returns c =
     let own : c.args.h.own < 65536 = search rules in
     whole-tested (the-record (goal.at.returns c).Start) _ c.posts_whole.ensures _ c.log_whole.ensures
-    c.if-not-posts_whole.false-raw c.if-not-log_whole.false-raw (omega (arith, own)) _ c.turn_whole.ensures
+    c.if-not-posts_whole.false-raw c.if-not-log_whole.false-raw (omega (arith, own)) _ (c.turn_whole.ensures c.args.contents.now)

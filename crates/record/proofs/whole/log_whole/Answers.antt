@@ -12,10 +12,10 @@ abbrev the-log : Start → Log
 the-log c = log_on c.args.l c.args.contents.now
 
 pub returns-then-not-log_in_range : goal.returns-then-not-log_in_range
-returns-then-not-log_in_range c = log-refused c.args.own (the-log (goal.at.returns-then-not-log_in_range c).Start) _ c.log_in_range.ensures c.if-not-log_in_range.true-raw
+returns-then-not-log_in_range c = log-refused c.args.own (the-log (goal.at.returns-then-not-log_in_range c).Start) _ (c.log_in_range.ensures c.args.contents.now c.told-contents) c.if-not-log_in_range.true-raw
 
 range : (c : Else-not-log_in_range) → LogRange (log_on c.args.l c.args.contents.now)
-range c = log-ranged c.args.own (log_on c.args.l c.args.contents.now) _ c.log_in_range.ensures c.if-not-log_in_range.false-raw
+range c = log-ranged c.args.own (log_on c.args.l c.args.contents.now) _ (c.log_in_range.ensures c.args.contents.now c.told-contents) c.if-not-log_in_range.false-raw
 
 pub slice_bounds-ids-end : goal.slice_bounds-ids-end
 slice_bounds-ids-end c =
@@ -36,11 +36,11 @@ next_not_held-requires c =
 pub returns : goal.returns
 returns c =
     log-whole-tested c.args.own (the-log (goal.at.returns c).Start) _
-    c.log_in_range.ensures
+    (c.log_in_range.ensures c.args.contents.now c.told-contents)
     c.if-not-log_in_range.false-raw _ _ _ _ _ _
     c.senders_are_members.ensures
     c.foundable_by.ensures
-    c.marks_in_order.ensures
-    c.held_to_level.ensures
-    c.next_not_held.ensures
+    (c.marks_in_order.ensures c.args.contents.now)
+    (c.held_to_level.ensures c.args.contents.now)
+    (c.next_not_held.ensures c.args.contents.now)
     c.log_unused_zero.ensures

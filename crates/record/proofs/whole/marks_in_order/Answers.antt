@@ -4,4 +4,4 @@ use Rattle.record.proofs.whole.marks_in_order.Goals as goal
 
 pub returns : goal.returns
 unfolding marks_in_order
-returns c = refl
+returns c = λ contents. refl

@@ -5,4 +5,4 @@ use Rattle.record.proofs.whole.next_not_held.Goals as goal
 
 pub returns : goal.returns
 unfolding next_not_held holds
-returns c = rw (rw add-one at c.is_held.ensures)
+returns c = λ contents. rw (rw add-one at c.is_held.ensures)

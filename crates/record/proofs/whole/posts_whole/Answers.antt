@@ -8,7 +8,7 @@ abbrev the-posts : Start → Posts
 the-posts c = posts_on c.args.p c.args.waiting.now
 
 pub returns-then-not-posts_in_range : goal.returns-then-not-posts_in_range
-returns-then-not-posts_in_range c = posts-refused (the-posts (goal.at.returns-then-not-posts_in_range c).Start) _ c.posts_in_range.ensures c.if-not-posts_in_range.true-raw
+returns-then-not-posts_in_range c = posts-refused (the-posts (goal.at.returns-then-not-posts_in_range c).Start) _ (c.posts_in_range.ensures c.args.waiting.now c.told-waiting) c.if-not-posts_in_range.true-raw
 
 pub returns : goal.returns
-returns c = posts-tested (the-posts (goal.at.returns c).Start) _ c.posts_in_range.ensures c.if-not-posts_in_range.false-raw _ c.posts_unused_zero.ensures
+returns c = posts-tested (the-posts (goal.at.returns c).Start) _ (c.posts_in_range.ensures c.args.waiting.now c.told-waiting) c.if-not-posts_in_range.false-raw _ c.posts_unused_zero.ensures

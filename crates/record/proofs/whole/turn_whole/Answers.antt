@@ -1,3 +1,5 @@
+use Prim.Native.Nat.{ℕ}
+use mathlib.Core.List.{List, []}
 use mathlib.Core.Path.{◌≡◌}
 use native.Mathlib.Omega.{arith}
 use lib.ListN.{length}
@@ -9,11 +11,11 @@ use Rattle.record.proofs.WholeLaws.{turn-refused, turn-ranged, turn-whole-tested
 use Rattle.record.proofs.whole.turn_whole.Goals as goal
 use Rattle.record.proofs.whole.turn_whole.Goals.{Start}
 
-abbrev the-log : Start → Log
-the-log c = log_on c.args.l c.args.contents.now
+abbrev the-log : Start → List ℕ → Log
+the-log c contents = log_on c.args.l contents
 
 pub returns-then-not-turn_in_range : goal.returns-then-not-turn_in_range
-returns-then-not-turn_in_range c = turn-refused (the-log (goal.at.returns-then-not-turn_in_range c).Start) _ _ c.turn_in_range.ensures c.if-not-turn_in_range.true-raw
+returns-then-not-turn_in_range c = λ contents. turn-refused (the-log (goal.at.returns-then-not-turn_in_range c).Start contents) _ _ c.turn_in_range.ensures c.if-not-turn_in_range.true-raw
 
 pub slice_bounds-resend_passes-end : goal.slice_bounds-resend_passes-end
 slice_bounds-resend_passes-end c =
@@ -22,11 +24,11 @@ slice_bounds-resend_passes-end c =
 
 pub resend_passes-requires : goal.resend_passes-requires
 resend_passes-requires c =
-    (turn-ranged (the-log (goal.at.resend_passes-requires c).Start) _ _ c.turn_in_range.ensures c.if-not-turn_in_range.false-raw).size
+    (turn-ranged (the-log (goal.at.resend_passes-requires c).Start []) _ _ c.turn_in_range.ensures c.if-not-turn_in_range.false-raw).size
 
 pub returns : goal.returns
 returns c =
-    turn-whole-tested (the-log (goal.at.returns c).Start) _ _
+    λ contents. turn-whole-tested (the-log (goal.at.returns c).Start contents) _ _
     c.turn_in_range.ensures
     c.if-not-turn_in_range.false-raw _ _ _
     c.resend_passes.ensures

@@ -1,8 +1,6 @@
 use mathlib.Core.Path.{sym, ◌∙◌}
-use native.Mathlib.Omega.{arith}
-use borrow.Author.Rules.{rules}
 use borrow.Author.Tests.{not-true, not-false}
-use Rattle.ring.proofs.places.HearingLaws.{not-reached, reached, handed-fits}
+use Rattle.ring.proofs.places.HearingLaws.{not-reached, reached}
 use Rattle.ring.proofs.broadcasts.hear.Goals as goal
 
 pub returns-then-not-is_message : goal.returns-then-not-is_message
@@ -11,21 +9,8 @@ returns-then-not-is_message c =
     not-reached args.place args.records.now args.frame.now args.deliveries.now args.at c.requires
     (sym c.is_message.ensures ∙ not-true _ c.if-not-is_message.true-raw)
 
-pub overflow_add-result : goal.overflow_add-result
-overflow_add-result c =
-    let args = c.args in
-    let message = sym c.is_message.ensures ∙ not-false _ c.if-not-is_message.false-raw in
-    let fits = handed-fits args.place args.records.now args.frame.now args.deliveries.now args.at c.requires message c.arrive_at-heard.result _ _ c.arrive_at-heard.ensures.0 c.arrive_at-heard.ensures.1 c.arrive_at-heard.ensures.3 (search rules) in
-    omega (arith, fits)
-
 pub returns : goal.returns
 returns c =
     let args = c.args in
     let message = sym c.is_message.ensures ∙ not-false _ c.if-not-is_message.false-raw in
     reached args.place args.records.now args.frame.now args.deliveries.now args.at c.requires message c.arrive_at-heard.result _ _ c.arrive_at-heard.ensures.0 c.arrive_at-heard.ensures.1 c.arrive_at-heard.ensures.3
-
-pub slice_bounds-arrive_at-count : goal.slice_bounds-arrive_at-count
-slice_bounds-arrive_at-count c = omega arith
-
-pub slice_bounds-arrive_at-start : goal.slice_bounds-arrive_at-start
-slice_bounds-arrive_at-start c = omega arith

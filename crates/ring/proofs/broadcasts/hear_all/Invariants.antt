@@ -1,10 +1,9 @@
-use Prim.Native.Nat.{◌-◌}
-use lib.ListN.{length}
+use Rattle.visit.specs.Within.{frames_in}
 use Rattle.ring.proofs.places.HearingLaws.{Hearing}
 use Rattle.ring.proofs.broadcasts.hear_all.Given as goal
 
-abbrev pub invariant-loop-from : goal.invariant-loop-from
-invariant-loop-from l = Hearing l.place l.initial.records l.written l.initial.deliveries l.records l.deliveries l.from l.at
-
-abbrev pub decreases-loop-from : goal.decreases-loop-from
-decreases-loop-from l = length l.written - l.from
+abbrev pub invariant-loop-frame : goal.invariant-loop-frame
+invariant-loop-frame l =
+    (goal.iterator-loop-frame).can_next l.frame-iterator
+    × (goal.iterator-loop-frame).is_finite l.frame-iterator
+    × Hearing l.place l.initial.records l.written l.initial.deliveries l.records l.deliveries (frames_in l.frame-iterator.rest.now) l.at

@@ -1,4 +1,4 @@
-use Prim.Native.Nat.{ℕ, ◌*◌, ◌-◌, ◌≤◌}
+use Prim.Native.Nat.{ℕ, ◌*◌, ◌≤◌}
 use mathlib.Core.Path.{◌≡◌}
 use mathlib.Core.List.{List}
 use lib.ListN.{length}
@@ -7,10 +7,7 @@ use Rattle.record.specs.Layout.{record_size}
 use Rattle.ring.specs.Stations.{founded_up_to}
 use Rattle.ring.proofs.founding.found_others.Given as goal
 
-abbrev pub invariant-loop-i : goal.invariant-loop-i
-invariant-loop-i l = (1 ≤ l.i) × (1 ≤ l.n → l.i ≤ l.n) × (length l.records ≡ length l.initial.records) × (length l.token ≡ shortest_token) × ((before : List ℕ) → 1 ≤ l.n → record_size * l.n ≤ length before
+abbrev pub invariant-loop-place : goal.invariant-loop-place
+invariant-loop-place l = (length l.token ≡ shortest_token) × ((before : List ℕ) → 1 ≤ l.n → record_size * l.n ≤ length before
     → l.initial.records ≡ founded_up_to l.list l.ring.0 before 1
-    → l.records ≡ founded_up_to l.list l.ring.0 before l.i)
-
-abbrev pub decreases-loop-i : goal.decreases-loop-i
-decreases-loop-i l = l.n - l.i
+    → l.records ≡ founded_up_to l.list l.ring.0 before l.place)

@@ -5,7 +5,7 @@ use Rattle.ring.proofs.founding.found_ring.Goals as goal
 pub returns-then-records-n : goal.returns-then-records-n
 returns-then-records-n c =
     let args = c.args in
-    ring-roomless args.records.now args.list.now args.ring.0 args.token.now _ _ c.id_count-n.ensures c.if-records-n.true c.outcome_of.ensures
+    ring-roomless args.records.now args.list.now args.ring.0 args.token.now _ _ c.id_count-n.ensures c.if-records-n.true c.from.ensures
 
 pub returns-then-first-ne0 : goal.returns-then-first-ne0
 returns-then-first-ne0 c =

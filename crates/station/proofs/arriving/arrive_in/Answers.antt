@@ -1,29 +1,26 @@
 use mathlib.Core.Path.{sym, ◌∙◌}
-use borrow.Author.Tests.{not-true, not-false}
-use Rattle.record.specs.Lent.{lent}
-use Rattle.record.proofs.LentLaws.{own-head}
-use Rattle.station.proofs.DoesLaws.{refuses, known}
-use Rattle.station.proofs.LentLaws.{whole_long}
-use Rattle.station.proofs.ArriveLaws.{both-fit, over-roomless, over-not-whole, over-passes, head-there}
+use borrow.Author.Tests.{leb-true}
+use Rattle.std.proofs.Common.{arith, ◌≡◌, length}
+use Rattle.frames.specs.Read.{read_of}
+use Rattle.record.specs.inner.Head.{record_in}
+use Rattle.station.specs.Arrive.{frame_arrived, arrived}
+use Rattle.station.specs.Over.{arrive_over}
+use Rattle.station.proofs.LentLaws.{head_lent, head_there}
+use Rattle.station.proofs.ReplyLaws.{said_yes}
+use Rattle.station.proofs.DoesLaws.{known}
 use Rattle.station.proofs.arriving.arrive_in.Goals as goal
-
-pub returns-then-not-arrival_fits : goal.returns-then-not-arrival_fits
-returns-then-not-arrival_fits c =
-    refuses _ _ _ c.args.s.now _ _
-    (over-roomless c.args.s.now c.args.frame.now _ _ (sym c.arrival_fits.ensures ∙ not-true _ c.if-not-arrival_fits.true-raw))
-
-pub returns-then-not-is_whole_at : goal.returns-then-not-is_whole_at
-returns-then-not-is_whole_at c =
-    refuses _ _ _ c.args.s.now _ _
-    (over-not-whole c.args.s.now c.args.frame.now _ _ (sym c.arrival_fits.ensures ∙ not-false _ c.if-not-arrival_fits.false-raw) (sym c.is_whole_at.ensures ∙ not-true _ c.if-not-is_whole_at.true-raw))
 
 pub frame_arrived-requires : goal.frame_arrived-requires
 frame_arrived-requires c =
-    let w = (sym c.is_whole_at.ensures ∙ not-false _ c.if-not-is_whole_at.false-raw) in
-    let room = both-fit (lent c.args.s.now) c.args.frame.now _ _ (sym c.arrival_fits.ensures ∙ not-false _ c.if-not-arrival_fits.false-raw) in
-    (head-there _ _ w (own-head _ _ w (whole_long _ w) c.head_in-head.ensures), room.0, room.1)
+    let w = sym c.is_whole_at.ensures ∙ said_yes _ _ _ _ c.ask-3.ensures c.in_ok-ask-3.was in (
+      head_there _ _ w c.head_in-head.ensures,
+      leb-true _ _ (said_yes _ _ _ _ c.ask.ensures c.in_ok-ask.was),
+      leb-true _ _ (said_yes _ _ _ _ c.ask-2.ensures c.in_ok-ask-2.was),
+    )
 
 pub returns : goal.returns
+unfolding arrive_over arrived
 returns c =
-    let w = (sym c.is_whole_at.ensures ∙ not-false _ c.if-not-is_whole_at.false-raw) in
-    known _ _ _ _ _ _ _ _ _ (over-passes c.args.s.now c.args.frame.now _ _ _ (own-head _ _ w (whole_long _ w) c.head_in-head.ensures) (sym c.arrival_fits.ensures ∙ not-false _ c.if-not-arrival_fits.false-raw) w) c.frame_arrived.ensures
+    let frame = c.args.frame.now in
+    let passes : arrive_over c.args.s.now frame (length c.args.frames.now) (length c.args.deliveries.now) ≡ frame_arrived (record_in c.head_in-head.result c.args.s.now) frame (read_of frame) = grind (arith, head_lent) in
+    known _ _ _ _ _ _ _ _ _ passes c.frame_arrived.ensures

@@ -1,19 +1,16 @@
 use mathlib.Core.Path.{◌∙◌}
-use Rattle.visit.proofs.CirculationLaws.{seeking-starts, seeking-goes, seeking-finds, seeking-turns, seeking-ends}
+use borrow.Author.Rules.{rules}
+use Rattle.visit.proofs.CirculationLaws.{next-after, first-after, first-else}
 use Rattle.visit.proofs.circulation.next_member.Goals as goal
+use Rattle.visit.proofs.circulation.next_member.Goals.{in_default-via-in-Some+else-i-ids, in_default-via-in_default}
 
-pub loop-i-init : goal.loop-i-init
-loop-i-init c = seeking-starts _ _ _
+pub returns-in-Some : goal.returns-in-Some
+returns-in-Some c =
+    next-after _ _ _ _ (record { within = search rules; here = search rules; before = search rules }) c.if-i-ids.true
 
-pub returns-then-i-ids : goal.returns-then-i-ids
-returns-then-i-ids c =
-    seeking-finds _ _ _ _ c.loop-i.invariant c.loop-i-test.true c.if-ids-i.true c.if-i-ids.true
-
-pub returns-then-ids-i : goal.returns-then-ids-i
-returns-then-ids-i c = c.representative_of-first.ensures ∙ seeking-turns _ _ _ _ c.loop-i.invariant c.loop-i-test.true c.if-ids-i.true c.if-i-ids.false
-
-pub loop-i-preserved : goal.loop-i-preserved
-loop-i-preserved c = seeking-goes _ _ _ _ c.loop-i.invariant c.loop-i-test.true c.if-ids-i.false
-
-pub returns : goal.returns
-returns c = c.representative_of-first.ensures ∙ seeking-ends _ _ _ _ c.loop-i.invariant c.loop-i-test.false
+pub returns-in_default : goal.returns-in_default
+returns-in_default c =
+    c.representative_of.ensures ∙ elim c.in_default.branch [
+      | in_default-via-in-Some+else-i-ids w ↦ first-after _ _ _ w.in-Some.i (record { within = search rules; here = search rules; before = search rules }) w.if-i-ids.false
+      | in_default-via-in_default w ↦ first-else _ _ _ (search rules)
+    ]

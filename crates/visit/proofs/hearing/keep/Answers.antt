@@ -1,19 +1,12 @@
 use mathlib.Core.Path.{ap, ◌∙◌}
 use Rattle.record.specs.inner.Head.{log_on, contents_in}
 use Rattle.record.specs.Layout.{log_at}
-use Rattle.record.specs.declared.head.LogHead.{LogHead}
-use Rattle.record.specs.declared.log.Log.{Log}
 use Rattle.visit.specs.Level.{raised}
 use Rattle.visit.proofs.HearLaws.{raised-as}
 use Rattle.visit.proofs.hearing.keep.Goals as goal
-
-pub level_of-level-requires : goal.level_of-level-requires
-level_of-level-requires c =
-    let stores = c.store_in-stored.ensures.0 in
-    (rw (ap (λ (l : Log). l.safe.0) stores) c.requires.0, rw (ap (λ (l : Log). l.level.0) stores) c.requires.1)
 
 pub returns : goal.returns
 returns c =
     let contents = contents_in c.store_in-stored.new.s log_at in
     let raises = raised-as (log_on c.store_in-stored.result contents) c.level_of-level.result c.level_of-level.ensures in
-    (ap (λ (x : LogHead). log_on x contents) c.marked.ensures ∙ raises ∙ ap raised c.store_in-stored.ensures.0, c.store_in-stored.ensures.1)
+    (raises ∙ ap raised c.store_in-stored.ensures.0, c.store_in-stored.ensures.1)

@@ -8,4 +8,4 @@ use Rattle.visit.proofs.hearing.put_heard.Goals as goal
 pub returns : goal.returns
 returns c =
     let none : drop record_size c.args.s.now ≡ [] = drop_of_length-le c.args.s.now {i = record_size} (omega (arith, c.requires.2)) in
-    (refl, rw (c.with_parts-after.ensures, c.resend_ended-turn.ensures, none, append-nil) at c.put_head.ensures)
+    (refl, rw (c.resend_ended-turn.ensures, none, append-nil) at c.put_head.ensures)

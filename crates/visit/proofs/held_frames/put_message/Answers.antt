@@ -5,10 +5,6 @@ use Rattle.frames.proofs.WriteLaws.{message-put}
 use Rattle.visit.proofs.PutFrames.{frame-put, rest-long}
 use Rattle.visit.proofs.held_frames.put_message.Goals as goal
 
-pub overflow_add-result-2 : goal.overflow_add-result-2
-overflow_add-result-2 c =
-    omega (arith, message-length c.args.m c.args.content.now, c.requires.1)
-
 pub returns : goal.returns
 returns c = (
   omega (arith, message-length c.args.m c.args.content.now),

@@ -1,16 +1,13 @@
-use mathlib.Core.Path.{sym, ◌∙◌}
-use borrow.Author.Tests.{not-true, not-false}
-use Rattle.visit.proofs.HearLaws.{rise-starts, rise-stops, rise-goes, rise-ends}
+use mathlib.Core.Path.{sym}
+use native.Mathlib.Omega.{arith}
+use Rattle.visit.proofs.HearLaws.{rise-stops, rise-goes, rise-ends}
 use Rattle.visit.proofs.level.level_of.Goals as goal
 
-pub loop-most-init : goal.loop-most-init
-loop-most-init c = rise-starts _ _
-
 pub returns-then-not-is_held : goal.returns-then-not-is_held
-returns-then-not-is_held c = rise-stops _ _ _ _ c.loop-most.invariant c.loop-most-test.true (sym c.is_held.ensures ∙ not-true _ c.if-not-is_held.true-raw)
+returns-then-not-is_held c = rise-stops _ _ _ c.loop-reached.invariant (omega arith) (sym c.if-not-is_held.ensures)
 
-pub loop-most-preserved : goal.loop-most-preserved
-loop-most-preserved c = rise-goes _ _ _ _ c.loop-most.invariant c.loop-most-test.true (sym c.is_held.ensures ∙ not-false _ c.if-not-is_held.false-raw)
+pub loop-reached-preserved : goal.loop-reached-preserved
+loop-reached-preserved c = rise-goes _ _ _ c.loop-reached.invariant (omega arith) (sym c.if-not-is_held.ensures)
 
 pub returns : goal.returns
-returns c = rise-ends _ _ _ _ c.loop-most.invariant c.loop-most-test.false
+returns c = rise-ends _ _ _ c.loop-reached.invariant (omega arith)

@@ -7,8 +7,5 @@ use Rattle.record.specs.Held.{place_of}
 use Rattle.visit.proofs.HearLaws.{Rising}
 use Rattle.visit.proofs.level.level_of.Given as goal
 
-abbrev pub invariant-loop-most : goal.invariant-loop-most
-invariant-loop-most l = Rising (λ n. ltb l.safe.0 n && leb n (l.safe.0 + most_held) && not (eqb (get_or l.senders (place_of n) 0) 0)) l.initial.reached l.reached l.most
-
-abbrev pub decreases-loop-most : goal.decreases-loop-most
-decreases-loop-most l = l.most
+abbrev pub invariant-loop-reached : goal.invariant-loop-reached
+invariant-loop-reached l = Rising (λ n. ltb l.safe.0 n && leb n (l.safe.0 + most_held) && not (eqb (get_or l.senders (place_of n) 0) 0)) l.fn.level.0 l.reached

@@ -1,25 +1,22 @@
-use mathlib.Core.Path.{refl, ◌∙◌}
+use mathlib.Core.Path.{◌∙◌}
 use native.Mathlib.Omega.{arith}
 use Rattle.record.specs.inner.Head.{posts_on, waiting_in}
 use Rattle.record.specs.Layout.{posts_at}
 use Rattle.record.specs.declared.posts.Posts.{Posts}
 use Rattle.record.proofs.PartLaws.{waiting_stays}
 use Rattle.record.proofs.RangeFacts.{PostsRange, posts-range}
-use Rattle.visit.proofs.HoldNew.{placing-starts, placing-goes, placing-ends}
+use Rattle.visit.proofs.HoldNew.{placing-goes, placing-ends}
 use Rattle.visit.proofs.new_messages.place_new.Goals as goal
 use Rattle.visit.proofs.new_messages.place_new.Goals.{Start}
 
 abbrev the-posts : Start → Posts
-the-posts c = posts_on c.args.posts (waiting_in c.args.s.now posts_at)
+the-posts c = posts_on c.args.posts.now (waiting_in c.args.s.now posts_at)
 
 range : (c : Start) → PostsRange (the-posts c)
 range c = posts-range (the-posts c) c.requires.1
 
-pub loop-i-init : goal.loop-i-init
-loop-i-init c = (c.requires.0, refl, λ l own services. placing-starts _ _ _ _ _ _)
-
-pub bounds-lengths-post : goal.bounds-lengths-post
-bounds-lengths-post c = omega (arith, (range (goal.at.bounds-lengths-post c).Start).arrays.lengths, (range (goal.at.bounds-lengths-post c).Start).count, c.requires.2, c.loop-i-test.true)
+pub bounds-posts-post : goal.bounds-posts-post
+bounds-posts-post c = omega (arith, (range (goal.at.bounds-posts-post c).Start).arrays.lengths, (range (goal.at.bounds-posts-post c).Start).count, c.requires.2, c.loop-i-test.true)
 
 pub hold_content_in-requires : goal.hold_content_in-requires
 hold_content_in-requires c =
@@ -33,9 +30,6 @@ loop-i-preserved c =
       λ l own services. placing-goes _ _ _ _ _ _ _ _ (c.loop-i.invariant.2 l own services) _ c.loop-i-test.true (rw (waiting_stays c.args.s.now c.loop-i.s c.loop-i.invariant.1) at holds.0),
     )
 
-pub shape_of-s : goal.shape_of-s
-shape_of-s c = omega (arith, c.loop-i.invariant.0, c.requires.0)
-
 pub returns : goal.returns
 returns c =
-    (λ l own. placing-ends l own _ (the-posts (goal.at.returns c).Start) _ _ _ _ (c.loop-i.invariant.2 l own c.args.posts.services) c.loop-i-test.false c.requires.2, c.loop-i.invariant.1)
+    (λ l own. placing-ends l own _ (the-posts (goal.at.returns c).Start) _ _ _ _ (c.loop-i.invariant.2 l own c.args.posts.now.services) c.loop-i-test.false c.requires.2, c.loop-i.invariant.1)

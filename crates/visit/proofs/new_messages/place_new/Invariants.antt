@@ -1,4 +1,4 @@
-use Prim.Native.Nat.{ℕ, ◌-◌}
+use Prim.Native.Nat.{ℕ}
 use mathlib.Core.Path.{◌≡◌}
 use mathlib.Core.List.{List}
 use lib.ListN.{length, drop}
@@ -12,7 +12,4 @@ abbrev pub invariant-loop-i : goal.invariant-loop-i
 invariant-loop-i l =
     (length l.s ≡ record_size)
     × (drop turn_at l.s ≡ drop turn_at l.initial.s)
-    × ((h : LogHead) (own : ℕ) (services : List ℕ) → Placing h own l.highest.0 (posts_in l.n services l.lengths (waiting_in l.initial.s posts_at)) l.n (contents_in l.initial.s log_at) (contents_in l.s log_at) l.i)
-
-abbrev pub decreases-loop-i : goal.decreases-loop-i
-decreases-loop-i l = l.n - l.i
+    × ((h : LogHead) (own : ℕ) (services : List ℕ) → Placing h own l.highest.0 (posts_in l.n services l.posts.lengths (waiting_in l.initial.s posts_at)) l.n (contents_in l.initial.s log_at) (contents_in l.s log_at) l.i)

@@ -1,9 +1,0 @@
-use Rattle.words.proofs.ScanLaws.{to-end}
-use Rattle.record.proofs.UnusedLaws.{past_end}
-use Rattle.record.proofs.unused.zero_from_u16.Goals as goal
-
-pub returns-then-s-first : goal.returns-then-s-first
-returns-then-s-first c = past_end _ _ c.if-s-first.true
-
-pub returns : goal.returns
-returns c = rw to-end at c.all_zero_u16.ensures

@@ -1,6 +1,0 @@
-use borrow.Author.Rules.{rules}
-use Rattle.words.proofs.WordLaws.{byte_word}
-use Rattle.words.proofs.word.put_u8.Goals as goal
-
-pub returns : goal.returns
-returns c = rw (byte_word c.args.x (search rules))
