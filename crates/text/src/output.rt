@@ -27,6 +27,7 @@ impl Model for Output {
 }
 
 impl Output {
+    // Ruled out: a text already there; a text that does not begin at the front.
     pub fn new() -> Output
         ensures { result.at ≡ 0 }
     {
