@@ -2,12 +2,12 @@
 use Prim.Native.Nat.{ℕ, zero, suc, ◌+◌, ◌*◌, ◌/◌, ◌%◌, ◌^◌, ◌<◌, ◌≤◌}
 use mathlib.Core.Path.{◌≡◌, refl, sym, ap, ◌∙◌}
 use mathlib.Core.List.{List, [], ◌∷◌, ◌++◌}
-use native.Mathlib.Nat.{pow-suc, pow-succ', div-lt_iff_lt-mul, div-div-eq-div-mul, div-one, mod-add-div, add-mul-mod_self_left, add-mul-div_left, mul_assoc}
-use native.Mathlib.Numerals.{add-one}
+use native.Mathlib.Nat.{pow-suc, pow-succ', div-lt_iff_lt-mul, div-div-eq-div-mul, div-one, mod-add-div, add-mul-mod_self_left, add-mul-div_left, mul_assoc, one-mul, zero-add, suc-add}
+use native.Mathlib.Numerals.{one-add}
 use native.Mathlib.Omega.{arith}
 use lib.ListN.{length, get_or, take, drop, length-take, length-drop, take-append-drop}
-use lib.Seq.{sets, drop-cons, drop-drop, get_or-drop}
-use Rattle.words.proofs.StoreLaws.{Stored, stored_next}
+use lib.Seq.{sets, take-add, drop-cons, drop-drop, get_or-drop}
+use Rattle.words.proofs.StoreLaws.{sets-append, Stored, stored_next}
 use Rattle.std.specs.Int.{bytes_low_first}
 use Rattle.words.specs.Word.{Bytes, word_bytes, word_of, word_at}
 
@@ -60,7 +60,20 @@ word_split w s at b h =
     let bytes : word_bytes w (word_of p) ≡ p = rw size at (word-there p (bytes_take w (drop at s) (bytes_drop at s b))) in
     rw (bytes, ← drop-drop) (take-append-drop w (drop at s))
 
--- ---- the low part of a number
+-- ---- a word is two shorter words
+
+append-of : (p q : List ℕ) → word_of (p ++ q) ≡ word_of p + 256 ^ length p * word_of q
+unfolding word_of
+append-of [] q = omega (arith, one-mul (word_of q))
+append-of (x ∷ p) q =
+    let e : 256 ^ suc (length p) * word_of q ≡ 256 * (256 ^ length p * word_of q) = rw (pow-succ', mul_assoc) in
+    let rest = append-of p q in
+    omega arith
+
+pub word-join : (v w : ℕ) (s : List ℕ) (at : ℕ) → at + v ≤ length s → word_at (v + w) s at ≡ word_at v s at + 256 ^ v * word_at w s (at + v)
+unfolding word_at
+word-join v w s at h =
+    rw (take-add, append-of, length_part at v s h, drop-drop)
 
 bytes-more : (v x k : ℕ) → word_bytes v (x + 256 ^ v * k) ≡ word_bytes v x
 unfolding word_bytes
@@ -71,6 +84,18 @@ bytes-more (suc v) x k =
 
 pub bytes_low : (v x : ℕ) → word_bytes v (x % 256 ^ v) ≡ word_bytes v x
 bytes_low v x = sym (bytes-more v (x % 256 ^ v) (x / 256 ^ v)) ∙ ap (word_bytes v) (mod-add-div x (256 ^ v))
+
+bytes-join : (v w x : ℕ) → word_bytes (v + w) x ≡ word_bytes v x ++ word_bytes w (x / 256 ^ v)
+unfolding word_bytes
+bytes-join zero w x = rw (zero-add, div-one)
+bytes-join (suc v) w x =
+    let e : x / 256 / 256 ^ v ≡ x / 256 ^ suc v = rw (div-div-eq-div-mul, pow-succ') in
+    rw (suc-add, bytes-join v w (x / 256), e)
+
+-- storing the low part and then the high part stores the whole
+pub word-stored : (v w x at : ℕ) (l l₁ l₂ : List ℕ) → l₁ ≡ sets l at (word_bytes v (x % 256 ^ v)) → l₂ ≡ sets l₁ (at + v) (word_bytes w (x / 256 ^ v)) → l₂ ≡ sets l at (word_bytes (v + w) x)
+word-stored v w x at l l₁ l₂ e f =
+    rw (f, e, bytes_low, bytes-join, sets-append, length-word)
 
 -- a word stored right after what was stored before
 pub stored-word : {l : List ℕ} {at : ℕ} {p : List ℕ} {n : ℕ} {l₁ : List ℕ} (w x : ℕ) (l₂ : List ℕ)
@@ -104,8 +129,7 @@ le_bytes k x = bytes-low 0 k x ∙ ap (word_bytes k) (div-one x)
 
 -- a word is its lowest byte and a word of the rest
 word-from : (w : ℕ) (s : List ℕ) (at next : ℕ) → next ≡ at + 1 → at < length s → word_at (suc w) s at ≡ get_or s at 0 + 256 * word_at w s next
-unfolding word_at word_of
-word-from w s at next e h = rw (drop-cons s at 0 h, e, add-one)
+word-from w s at next e h = rw (e, byte_at s at h, ← one-add) (word-join 1 w s at (omega arith))
 
 none : (s : List ℕ) (at : ℕ) → word_at 0 s at ≡ 0
 unfolding word_at word_of
