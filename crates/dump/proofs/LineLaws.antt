@@ -1,14 +1,9 @@
 -- Laws of a line, one for each way to put it.
 use Prim.Native.Nat.{ℕ, ◌+◌, ◌≤◌}
-use mathlib.Core.Path.{◌≡◌, sym}
+use mathlib.Core.Path.{◌≡◌}
 use mathlib.Core.List.{List}
-use native.Mathlib.Nat.{sub-zero}
 use native.Mathlib.Omega.{arith}
-use lib.ListN.{length, take}
-use lib.Seq.{take_all}
-use Rattle.std.proofs.Common.{Bor, Option, None, Some}
-use Rattle.std.specs.Option.{unwrap_or}
-use Rattle.std.specs.Slice.{IsGetRangeResult}
+use lib.ListN.{length}
 use Rattle.frames.specs.Message.{content_of}
 use Rattle.frames.specs.Read.{read_of, unread_as, a_message, a_token}
 use Rattle.frames.specs.Refusal.{frame_refusal_number}
@@ -19,11 +14,6 @@ use Rattle.text.specs.Text.{Filled, put, Whole}
 use Rattle.dump.specs.Line.{message_line, token_line, unread_line, line_text, line_of, longest_line}
 use Rattle.text.proofs.PutLaws.{put_whole}
 use Rattle.dump.proofs.Longest.{line-short}
-
--- the first n of them, or all where there are fewer, as the code spells it
-pub first_taken : (n : ℕ) (xs : Bor (List ℕ)) (r : Option (Bor (List ℕ))) → IsGetRangeResult xs.now 0 n r → (unwrap_or r xs).now ≡ take n xs.now
-first_taken n xs None g = sym (take_all n xs.now (omega arith))
-first_taken n xs (Some x) g = simp sub-zero at g.0.2
 
 module _ (f : Filled) {f' : Filled} where
   module _ (frame : List ℕ) where

@@ -12,12 +12,15 @@ pub fn whole_size(stream: &[u8]) -> Option<usize>
     frames::framed_size(stream).filter(|&size| size <= stream.len())
 }
 
-// Moves the bytes of `buffer` from `from` to `end` to its front, and answers how many they are.
+// Moves the bytes of `buffer` from `from` to `end` to its front, and answers how many they are. Where no
+// frame was whole they stand there: a long frame may come a byte at a time.
 pub fn keep_rest(buffer: &mut [u8], from: usize, end: usize) -> usize
     requires { (from ≤ end) × (end ≤ length buffer.old) }
     ensures value { result ≡ end - from }
     ensures buffer_after { take result buffer.new ≡ take result (drop from buffer.old) }
 {
-    buffer.copy_within(from..end, 0);
+    if 0 < from {
+        buffer.copy_within(from..end, 0);
+    }
     end - from
 }

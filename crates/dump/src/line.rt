@@ -67,7 +67,7 @@ fn put_numbers(out: &mut Output, numbers: &[u32])
     }
 }
 
-#[tactic(auto, using(text::proofs::PutLaws::put_append, crate::proofs::LineLaws::first_taken), unfolding(text::specs::Text::put))]
+#[tactic(auto, using(text::proofs::PutLaws::put_append, words::proofs::TakeLaws::first_taken), unfolding(text::specs::Text::put))]
 fn put_requests(out: &mut Output, requests: &[u32; frames::MOST_REQUESTS], count: u16)
     ensures { out.new ≡ put (requests_text requests.now count) out.old }
 {
