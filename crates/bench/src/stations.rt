@@ -1,4 +1,6 @@
 // The stations of the ring that the script has founded, by place.
+ghost use Rattle.std.specs.Prelude.{◌≡◌, take};
+
 use crate::line::IDS_ROOM;
 use crate::number;
 use crate::output::Printer;
@@ -21,9 +23,12 @@ pub struct Stations {
     list: ArrayVec<u8, IDS_ROOM>,
 }
 
-// The first `n` bytes, or all where there are fewer.
-fn first(bytes: &[u8], n: u16) -> &[u8] {
-    bytes.get(..n as usize).unwrap_or(bytes)
+// The first `n` bytes, or all where there are fewer. Ruled out: one byte fewer; none where there are fewer.
+#[tactic(auto, using(words::proofs::TakeLaws::first_taken))]
+fn first(bytes: &[u8], n: usize) -> &[u8]
+    ensures { result.now ≡ take n bytes.now }
+{
+    bytes.get(..n).unwrap_or(bytes)
 }
 
 impl Stations {
@@ -48,7 +53,7 @@ impl Stations {
         }
         self.list.clear();
         let _ = self.list.try_extend_from_slice(ids);
-        Ok(Token::try_from(first(&token, answer.frames)).ok())
+        Ok(Token::try_from(first(&token, answer.frames as usize)).ok())
     }
 
     // A post's refusal, or 0: answers come in numbers, as hosts in C get them.
@@ -79,11 +84,11 @@ impl Stations {
             &mut frames,
             &mut deliveries,
         );
-        let written = first(&frames, answer.frames);
+        let written = first(&frames, answer.frames as usize);
         out.refusal(answer.refusal);
         out.deliveries(
             number::within_u32(place),
-            first(&deliveries, answer.deliveries),
+            first(&deliveries, answer.deliveries as usize),
         );
         self.broadcast(place, without, written, &mut deliveries, out);
         if written.is_empty() {
@@ -117,9 +122,6 @@ impl Stations {
         out: &mut Printer<R>,
     ) {
         let n = ring::hear_all(&mut self.records, place, written, deliveries);
-        out.deliveries(
-            number::within_u32(place),
-            deliveries.get(..n).unwrap_or(deliveries),
-        );
+        out.deliveries(number::within_u32(place), first(deliveries, n));
     }
 }
