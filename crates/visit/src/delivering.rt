@@ -1,10 +1,11 @@
 // Delivery: which messages are due, and their frames.
-ghost use Rattle.std.specs.Prelude.{◌≡◌, true, ℕ, ◌+◌, ◌*◌, ◌≤◌, ◌<◌, length};
+ghost use Rattle.std.specs.Prelude.{◌≡◌, true, List, ℕ, ◌+◌, ◌*◌, ◌≤◌, ◌<◌, length};
 ghost use Rattle.std.proofs.lemmas.List.Edits.{sets};
 ghost use Rattle.frames.specs.Number.{most_number};
 ghost use Rattle.frames.specs.Layout.{longest_message};
 ghost use Rattle.record.specs.Count.{numbers_after};
 ghost use Rattle.record.specs.Held.{holds};
+ghost use Rattle.record.specs.inner.Head.{log_on};
 ghost use Rattle.visit.specs.Output.{followed_by, most_deliveries};
 ghost use Rattle.visit.specs.Deliver.{is_due, due, handed_out};
 ghost use Rattle.visit.specs.inner.Steps.{held_log, frames_of, JustKept};
@@ -23,7 +24,7 @@ pub struct Handed {
 impl HeldLog<'_> {
     // Agreed, or at most the safe mark?
     fn is_due(&self, safe: MessageNumber, n: MessageNumber) -> bool
-        ensures { result ≡ is_due (held_log self.now) safe.0 n.0 }
+        ensures { (contents : List ℕ) → result ≡ is_due (log_on self.now.log.now contents) safe.0 n.0 }
     {
         let place = n.0 as usize % record::MOST_HELD;
         (self.log.services[place] == 0) | (n.0 <= safe.0)
@@ -31,7 +32,7 @@ impl HeldLog<'_> {
 
     // How many messages are due.
     fn due_count(&self, safe: MessageNumber) -> u32
-        ensures { result ≡ length (due (held_log self.now) safe.0) }
+        ensures { (contents : List ℕ) → result ≡ length (due (log_on self.now.log.now contents) safe.0) }
     {
         let delivered = self.log.delivered.0;
         let level = self.log.level.0;
