@@ -21,8 +21,9 @@ fn show(rt: &impl Print, frame: &[u8], out: &mut Output) -> Result<()> {
 }
 
 // Writes the line of each whole frame of `input`, and answers where they end: what is left is a part
-// of one frame, or nothing. That holds whatever came of a write, after which nothing is left, so it
-// stands beside what came of it. Frames have any length, so no method of slices cuts them.
+// of one frame, or nothing. That holds whatever came of a write (where no room could be made for a
+// line, nothing is left), so it stands beside what came of it. Frames have any length, so no method of
+// slices cuts them.
 fn show_frames(rt: &impl Print, input: &[u8], out: &mut Output) -> (usize, Result<()>)
     ensures { (result.0 ≤ length input.now) × (length input.now < result.0 + most_framed) }
 {
